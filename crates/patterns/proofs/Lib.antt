@@ -1,0 +1,10 @@
+pub mod Booleans
+pub mod Lists
+pub mod Occurrences
+pub mod NoRepeat
+pub mod PartLaws
+pub mod Searches
+pub mod Compose
+pub mod Products
+pub mod Standard
+pub mod Places

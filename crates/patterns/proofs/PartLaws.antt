@@ -1,0 +1,94 @@
+-- Laws of parts: they compose, and go through a map and a filter; a part stands at rising places.
+use Rattle.std.proofs.Common.{◌≡◌, ℕ, zero, suc, pred, Bool, true, false, cond, List, [], ◌∷◌, length, refl, ap, arith}
+use Rattle.std.specs.Prelude.{map}
+use Rattle.std.specs.List.{filter, AllByRecursion}
+use Rattle.patterns.specs.Parts.{IsPart, IsRising, StandAt}
+use Rattle.patterns.specs.Parts.IsPart.{none, kept, left_out}
+
+pub IsPart-itself : {X : Type 0} (xs : List X) → IsPart xs xs
+IsPart-itself [] = none
+IsPart-itself (x ∷ xs) = kept x (IsPart-itself xs)
+
+pub IsPart-trans : {X : Type 0} {a b c : List X} → IsPart a b → IsPart b c → IsPart a c
+IsPart-trans h none = h
+IsPart-trans (kept x h) (kept _ k) = kept x (IsPart-trans h k)
+IsPart-trans (left_out x h) (kept _ k) = left_out x (IsPart-trans h k)
+IsPart-trans h (left_out y k) = left_out y (IsPart-trans h k)
+
+pub IsPart-map : {X Y : Type 0} (f : X → Y) {a b : List X} → IsPart a b → IsPart (map f a) (map f b)
+IsPart-map f none = none
+IsPart-map f (kept x h) = kept (f x) (IsPart-map f h)
+IsPart-map f (left_out x h) = left_out (f x) (IsPart-map f h)
+
+pub from_IsPart-map : {X Y : Type 0} (f : X → Y) (b : List X) {a : List Y} → IsPart a (map f b) → (c : List X) × IsPart c b × (a ≡ map f c)
+from_IsPart-map f [] none = ([], none, refl)
+from_IsPart-map f (x ∷ b) (kept _ h) = let k = from_IsPart-map f b h in (x ∷ k.0, kept x k.1, ap (λ l. f x ∷ l) k.2)
+from_IsPart-map f (x ∷ b) (left_out _ h) = let k = from_IsPart-map f b h in (k.0, left_out x k.1, k.2)
+
+pub IsPart-filter : {X : Type 0} (p : X → Bool) {a b : List X} → IsPart a b → AllByRecursion (λ x. p x ≡ true) a → IsPart a (filter p b)
+IsPart-filter p none t = none
+IsPart-filter p (kept x h) t = rw t.0 (kept x (IsPart-filter p h t.1))
+IsPart-filter {X} p {a} (left_out {whole = b} x h) t = go (p x) (IsPart-filter p h t)
+  where
+    go : (r : Bool) → IsPart a (filter p b) → IsPart a (cond r (x ∷ filter p b) (filter p b))
+    go true k = left_out x k
+    go false k = k
+
+pub filter-IsPart : {X : Type 0} (p : X → Bool) (b : List X) → IsPart (filter p b) b
+filter-IsPart p [] = none
+filter-IsPart {X} p (x ∷ b) = go (p x) (filter-IsPart p b)
+  where
+    go : (r : Bool) → IsPart (filter p b) b → IsPart (cond r (x ∷ filter p b) (filter p b)) (x ∷ b)
+    go true k = kept x k
+    go false k = left_out x k
+
+-- ---- rising places
+shifted_up : {X : Type 0} (z : X) (xs : List X) (ks : List ℕ) (ys : List X) → StandAt xs ks ys → StandAt (z ∷ xs) (map suc ks) ys
+shifted_up z xs [] [] h = tt
+shifted_up z xs [] (y ∷ ys) h = absurd h
+shifted_up z xs (k ∷ ks) [] h = absurd h
+shifted_up z xs (k ∷ ks) (y ∷ ys) h = (h.0, shifted_up z xs ks ys h.1)
+
+rising_up : (from end : ℕ) (ks : List ℕ) → IsRising from end ks → IsRising (suc from) (suc end) (map suc ks)
+rising_up from end [] h = tt
+rising_up from end (k ∷ ks) h = (omega arith, omega arith, rising_up (suc k) end ks h.2)
+
+from_lower : (from end : ℕ) (ks : List ℕ) → IsRising (suc from) end ks → IsRising from end ks
+from_lower from end [] h = tt
+from_lower from end (k ∷ ks) h = (omega arith, h.1, h.2)
+
+pub places_of : {X : Type 0} {part whole : List X} → IsPart part whole → (places : List ℕ) × IsRising 0 (length whole) places × StandAt whole places part
+places_of none = ([], tt, tt)
+places_of (kept {part} {whole} x h) =
+    let k = places_of h in
+    (0 ∷ map suc k.0, (omega arith, omega arith, rising_up 0 (length whole) k.0 k.1), ((λ d. refl), shifted_up x whole k.0 part k.2))
+places_of (left_out {part} {whole} x h) =
+    let k = places_of h in
+    (map suc k.0, from_lower 0 (suc (length whole)) (map suc k.0) (rising_up 0 (length whole) k.0 k.1), shifted_up x whole k.0 part k.2)
+
+rising_down : (from end : ℕ) (ks : List ℕ) → IsRising (suc from) (suc end) ks → IsRising from end (map pred ks)
+rising_down from end [] h = tt
+rising_down from end (zero ∷ ks) h = absurd (omega (arith, h.0))
+rising_down from end (suc k ∷ ks) h = (omega (arith, h.0), omega (arith, h.1), rising_down (suc k) end ks h.2)
+
+shifted_down : {X : Type 0} (z : X) (xs : List X) (from end : ℕ) (ks : List ℕ) (ys : List X) → IsRising (suc from) end ks → StandAt (z ∷ xs) ks ys → StandAt xs (map pred ks) ys
+shifted_down z xs from end [] [] r h = tt
+shifted_down z xs from end [] (y ∷ ys) r h = absurd h
+shifted_down z xs from end (k ∷ ks) [] r h = absurd h
+shifted_down z xs from end (zero ∷ ks) (y ∷ ys) r h = absurd (omega (arith, r.0))
+shifted_down z xs from end (suc k ∷ ks) (y ∷ ys) r h = (h.0, shifted_down z xs (suc k) end ks ys r.2 h.1)
+
+no_places : {X : Type 0} (whole : List X) → IsPart [] whole
+no_places [] = none
+no_places (x ∷ xs) = left_out x (no_places xs)
+
+pub part_at_places : {X : Type 0} (whole : List X) (ks : List ℕ) (part : List X) → IsRising 0 (length whole) ks → StandAt whole ks part → IsPart part whole
+part_at_places whole [] [] r h = no_places whole
+part_at_places whole [] (y ∷ ys) r h = absurd h
+part_at_places whole (k ∷ ks) [] r h = absurd h
+part_at_places [] (k ∷ ks) (y ∷ ys) r h = absurd (omega (arith, r.1))
+part_at_places (x ∷ xs) (zero ∷ ks) (y ∷ ys) r h =
+    rw (← h.0 x) (kept x (part_at_places xs (map pred ks) ys (rising_down 0 (length xs) ks r.2) (shifted_down x xs 0 (suc (length xs)) ks ys r.2 h.1)))
+part_at_places (x ∷ xs) (suc k ∷ ks) (y ∷ ys) r h =
+    left_out x (part_at_places xs (map pred (suc k ∷ ks)) (y ∷ ys) (rising_down 0 (length xs) (suc k ∷ ks) (omega (arith, r.0), r.1, r.2))
+    (shifted_down x xs 0 (suc (length xs)) (suc k ∷ ks) (y ∷ ys) (omega (arith, r.0), r.1, r.2) h))

@@ -1,0 +1,6 @@
+pub mod Parts
+pub mod Words
+pub mod Occurs
+pub mod Search
+pub mod Ranks
+pub mod Laws
