@@ -1,0 +1,9 @@
+pub mod BasisKept
+pub mod BasisLaws
+pub mod BasisTexts
+pub mod Repeats
+pub mod Rows
+pub mod Searches
+pub mod Standards
+pub mod Tallies
+pub mod WordsRead
