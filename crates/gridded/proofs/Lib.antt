@@ -1,0 +1,11 @@
+pub mod Points
+pub mod GriddedLists
+pub mod Searches
+pub mod Preimages
+pub mod Accepted
+pub mod FreeBits
+pub mod Digests
+pub mod CellSets
+pub mod Consistent
+pub mod ClosedUp
+pub mod PartPlaces

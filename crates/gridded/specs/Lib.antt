@@ -1,0 +1,16 @@
+pub mod Grids
+pub mod Orders
+pub mod OrderLaws
+pub mod Hashes
+pub mod Search
+pub mod Free
+pub mod Digest
+pub mod Inverses
+pub mod PointLaws
+pub mod Axes
+pub mod Refused
+pub mod Laws
+pub mod CellSets
+pub mod CellBits
+pub mod CellSetOrder
+pub mod Parts
