@@ -1,0 +1,10 @@
+pub mod Kept
+pub mod Deciding
+pub mod Listed
+pub mod Counted
+pub mod Ordered
+pub mod Roots
+pub mod Single
+pub mod SameOrder
+pub mod Minimal
+pub mod GridCells

@@ -1,0 +1,99 @@
+-- The tilings with one member or none.
+use Rattle.std.proofs.Common.{◌≡◌, ◌<◌, ◌≤◌, ℕ, zero, suc, Bool, true, false, List, [], ◌∷◌, length, refl, sym, ◌∙◌, arith, inl, inr, ⊎_elim}
+use Rattle.std.specs.Prelude.{◌||◌, ◌⊎◌, not, map, nat_lt, ◌==◌}
+use Rattle.std.specs.List.{list_any}
+use Rattle.std.proofs.lemmas.Bool.Decides.{nat_tests, Decides-eqb}
+use Rattle.patterns.specs.Parts.{IsIn, IsPart}
+use Rattle.patterns.specs.Parts.IsIn.{here, later}
+use Rattle.patterns.specs.Parts.IsPart.{none, kept, left_out}
+use Rattle.patterns.specs.Words.{has_no_repeats}
+use Rattle.patterns.specs.Occurs.{occurs, is_match}
+use Rattle.patterns.proofs.Booleans.{and_true, both_true}
+use Rattle.patterns.proofs.Occurrences.{match_tells, alike_from}
+use Rattle.gridded.specs.Grids.{Point, Holds, letter_of, same_cell}
+use Rattle.tiling_core.specs.Tiles.{Tiles, count}
+use Rattle.tiling_core.specs.Carried.{MemberOf}
+use Rattle.tiling_core.specs.Patterns.{rising, falling}
+use Rattle.tiling_core.specs.Roots.{only_cell, unit_tiling, point_tiling, void_tiling, one_at}
+use Rattle.tiling_core.specs.Counts.{UnitHasOneMember, PointHasOneMember, VoidHasNoMember}
+use Rattle.tiling_core.proofs.Listed.{members, listed_is_member}
+
+empty_list : {X : Type 0} (xs : List X) → ((x : X) → IsIn x xs → ⊥) → length xs ≡ 0
+empty_list [] f = refl
+empty_list (x ∷ xs) f = absurd (f x here)
+
+pub count_without_members : (t : Tiles) (n : ℕ) → ((g : List Point) → ¬ (MemberOf t n g)) → count t n ≡ 0
+count_without_members t n f = empty_list (members t n) (λ g m. f g (listed_is_member t n g m))
+
+nothing_kept : (g : List Point) → IsPart [] g
+nothing_kept [] = none
+nothing_kept (p ∷ g) = left_out p (nothing_kept g)
+
+-- each gridded permutation holds the empty pattern
+pub holds_empty : (g : List Point) → Holds g []
+holds_empty g = let m = match_tells letter_of same_cell [] [] refl in record { points = []; chosen = nothing_kept g; order = m.order; fit = m.fit }
+
+pub void_has_no_member : VoidHasNoMember
+void_has_no_member n = count_without_members void_tiling n (λ g k. k.member.no_obstruction [] here (holds_empty g))
+
+no_point : (g : List Point) (n : ℕ) → ¬ (MemberOf unit_tiling (suc n) g)
+no_point [] n k = let e : 0 ≡ suc n = k.gridded.as_long in absurd (omega arith)
+no_point (p ∷ g) n k = let e : p.cell.x < 0 = k.gridded.in_grid.0.0 in absurd (omega arith)
+
+pub unit_has_one_member : UnitHasOneMember
+unit_has_one_member zero = refl
+unit_has_one_member (suc n) =
+    let none_there : one_at 0 (suc n) ≡ 0 = grind (arith, nat_tests) in
+    count_without_members unit_tiling (suc n) (λ g. no_point g n) ∙ sym none_there
+
+-- ---- two points of the one cell rise or fall
+abbrev InOneCell : Point → Type 0
+InOneCell p = same_cell p (record { letter = 0; cell = only_cell }) ≡ true
+
+two_rise : (p q : Point) (g : List Point) → InOneCell p → InOneCell q → p.letter < q.letter → Holds (p ∷ q ∷ g) (rising only_cell only_cell)
+two_rise p q g e f l =
+    let alike = alike_from p.letter 0 q.letter 1 (((λ h. omega arith), (λ h. l)), ((λ h. absurd (omega arith)), (λ h. absurd (omega arith)))) in
+    let matched : is_match letter_of same_cell (p ∷ q ∷ []) (rising only_cell only_cell) ≡ true = both_true _ _ e (both_true _ _ (both_true _ true alike refl) (both_true _ true f refl)) in
+    let m = match_tells letter_of same_cell (p ∷ q ∷ []) (rising only_cell only_cell) matched in
+    record { points = p ∷ q ∷ []; chosen = kept p (kept q (nothing_kept g)); order = m.order; fit = m.fit }
+
+two_fall : (p q : Point) (g : List Point) → InOneCell p → InOneCell q → q.letter < p.letter → Holds (p ∷ q ∷ g) (falling only_cell only_cell)
+two_fall p q g e f l =
+    let alike = alike_from p.letter 1 q.letter 0 (((λ h. absurd (omega arith)), (λ h. absurd (omega arith))), ((λ h. omega arith), (λ h. l))) in
+    let matched : is_match letter_of same_cell (p ∷ q ∷ []) (falling only_cell only_cell) ≡ true = both_true _ _ e (both_true _ _ (both_true _ true alike refl) (both_true _ true f refl)) in
+    let m = match_tells letter_of same_cell (p ∷ q ∷ []) (falling only_cell only_cell) matched in
+    record { points = p ∷ q ∷ []; chosen = kept p (kept q (nothing_kept g)); order = m.order; fit = m.fit }
+
+in_one_cell : (p : Point) → (p.cell.x < 1) × (p.cell.y < 1) → InOneCell p
+in_one_cell p k = both_true (p.cell.x == 0) (p.cell.y == 0) ((Decides-eqb p.cell.x 0).1 (omega (arith, k.0))) ((Decides-eqb p.cell.y 0).1 (omega (arith, k.1)))
+
+differ : (x y : ℕ) (rest : Bool) → not ((x == y) || rest) ≡ true → ¬ (x ≡ y)
+differ x y rest h e = go (x == y) h ((Decides-eqb x y).1 e)
+  where
+    go : (b : Bool) → not (b || rest) ≡ true → b ≡ true → ⊥
+    go true f k = cc
+    go false f k = cc
+
+no_two_points : (g : List Point) (n : ℕ) → ¬ (MemberOf point_tiling (suc (suc n)) g)
+no_two_points [] n k = let e : 0 ≡ suc (suc n) = k.gridded.as_long in absurd (omega arith)
+no_two_points (p ∷ []) n k = let e : 1 ≡ suc (suc n) = k.gridded.as_long in absurd (omega arith)
+no_two_points (p ∷ q ∷ g) n k =
+    let a = in_one_cell p k.gridded.in_grid.0 in
+    let b = in_one_cell q k.gridded.in_grid.1.0 in
+    let apart : ¬ (p.letter ≡ q.letter) = differ p.letter q.letter (list_any (λ y. p.letter == y) (map letter_of g)) (and_true (not (list_any (λ y. p.letter == y) (map letter_of (q ∷ g)))) (has_no_repeats (map letter_of (q ∷ g))) k.gridded.distinct).0 in
+    ⊎_elim {C = ⊥} (λ l. k.member.no_obstruction (rising only_cell only_cell) here (two_rise p q g a b l)) (λ l. k.member.no_obstruction (falling only_cell only_cell) (later (rising only_cell only_cell) here) (two_fall p q g a b l)) (ordered p.letter q.letter apart)
+  where
+    ordered : (x y : ℕ) → ¬ (x ≡ y) → (x < y) ⊎ (y < x)
+    ordered x y d = go (nat_lt x y) refl
+      where
+        go : (b : Bool) → nat_lt x y ≡ b → (x < y) ⊎ (y < x)
+        go true e = inl (grind (arith, nat_tests))
+        go false e = let le : y ≤ x = grind (arith, nat_tests) in inr (omega (arith, d))
+
+pub point_has_one_member : PointHasOneMember
+unfolding occurs
+point_has_one_member zero = refl
+point_has_one_member (suc zero) = refl
+point_has_one_member (suc (suc n)) =
+    let none_there : one_at 1 (suc (suc n)) ≡ 0 = grind (arith, nat_tests) in
+    count_without_members point_tiling (suc (suc n)) (λ g. no_two_points g n) ∙ sym none_there

@@ -1,0 +1,5 @@
+use Rattle.tiling_core.proofs.Deciding.{holds_decides, is_member_decides}
+use Rattle.tiling_core.proofs.laws.membership_is_decided.Goals as goal
+
+pub returns : goal.returns
+returns c = record { holding = holds_decides; members = is_member_decides }

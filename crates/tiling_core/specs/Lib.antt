@@ -1,0 +1,10 @@
+pub mod Tiles
+pub mod Members
+pub mod Measures
+pub mod Same
+pub mod Outside
+pub mod Refused
+pub mod Carried
+pub mod Patterns
+pub mod Roots
+pub mod Counts

@@ -1,0 +1,59 @@
+ghost use Rattle.std.specs.Prelude.{◌≡◌, ◌↔◌, IsTrue, not};
+ghost use Rattle.std.specs.List.{list_all, list_any};
+ghost use Rattle.gridded.specs.Grids.{holds};
+ghost use Rattle.tiling_core.specs.Tiles.{fits_grid, is_member};
+ghost use Rattle.tiling_core.specs.Members.{Member};
+
+use crate::tiling::Tiling;
+use gridded::{Gridded, holds};
+use sequences::Sequence;
+
+/// Whether the cells lie in a grid.
+pub(crate) fn fits_grid(g: &Gridded, width: u8, height: u8) -> bool
+    ensures { result ≡ fits_grid width height g.now }
+{
+    g.cells()
+        .iter()
+        .all(|cell| cell.x < width && cell.y < height)
+}
+
+/// Whether none of the patterns is held.
+fn holds_none(g: &Gridded, patterns: &[Gridded]) -> bool
+    ensures { result ≡ list_all (λ p. not (holds g.now p)) patterns.now }
+{
+    patterns.iter().all(|pattern| !holds(g, pattern))
+}
+
+/// Whether some pattern is held.
+fn holds_one(g: &Gridded, patterns: &[Gridded]) -> bool
+    ensures { result ≡ list_any (λ p. holds g.now p) patterns.now }
+{
+    patterns.iter().any(|pattern| holds(g, pattern))
+}
+
+/// Whether a pattern of each list is held.
+fn holds_each(g: &Gridded, lists: &[Sequence<Gridded>]) -> bool
+    ensures { result ≡ list_all (λ patterns. list_any (λ p. holds g.now p) patterns) lists.now }
+{
+    lists
+        .iter()
+        .all(|patterns| holds_one(g, patterns.as_slice()))
+}
+
+/// Whether a gridded permutation passes the tests of a member.
+fn passes(tiling: &Tiling, g: &Gridded) -> bool
+    ensures { result ≡ is_member tiling.now g.now }
+{
+    fits_grid(g, tiling.width(), tiling.height())
+        && holds_none(g, tiling.obstructions())
+        && holds_each(g, tiling.requirements())
+}
+
+/// Whether a gridded permutation is a member: in the grid, with no obstruction, and with a pattern of each
+/// requirement list. Its cells may lie outside the grid; then it is none. Takes no memory.
+pub fn member(tiling: &Tiling, g: &Gridded) -> bool
+    ensures value { result ≡ is_member tiling.now g.now }
+    ensures decides { IsTrue result ↔ Member g.now tiling.now }
+{
+    passes(tiling, g)
+}
