@@ -1,0 +1,12 @@
+pub mod Moves
+pub mod Runs
+pub mod Lists
+pub mod Placed
+pub mod Loops
+pub mod Counts
+pub mod Insides
+pub mod Memberships
+pub mod Holding
+pub mod Stretched
+pub mod Ascents
+pub mod Rows

@@ -1,0 +1,130 @@
+-- Points that are placed one after another.
+use Rattle.std.proofs.Common.{◌≡◌, ℕ, zero, suc, ◌+◌, ◌<◌, ◌≤◌, Bool, true, false, List, [], ◌∷◌, ◌++◌, length, get_or, set, take, drop, refl, sym, ap, ◌∙◌, subst, arith}
+use Rattle.std.specs.Prelude.{◌&&◌, nat_lt, All}
+use Rattle.std.specs.List.{list_all, AllByRecursion}
+use Rattle.std.proofs.lemmas.Bool.Decides.{nat_tests}
+use Rattle.std.proofs.lemmas.List.{length-map, length-take-le, take_more, take_more_set}
+use Rattle.std.proofs.lemmas.List.Elements.{All-from_recursion, recursion_from_All}
+use Rattle.patterns.proofs.Booleans.{and_true, both_true, and_none, and_end}
+use Rattle.gridded.specs.declared.cell.Cell.{Cell}
+use Rattle.gridded.specs.Grids.{Point, points, letter_of, may_follow, is_consistent, IsGridded, FitTogether}
+use Rattle.gridded.specs.Orders.{letters_of, cells_of}
+use Rattle.gridded.specs.PointLaws.{letters_of-points, length-points}
+use Rattle.coord_maps.specs.declared.grid_map.GridMap.{GridMap}
+use Rattle.coord_maps.specs.GridMaps.{fits_old}
+use Rattle.coord_maps.proofs.Moves.{so_is_true}
+use Rattle.coord_maps.specs.Preimages.{may_come, placed_points, point_at}
+
+points-push : (letters : List ℕ) (cells : List Cell) (l : ℕ) (c : Cell) → length letters ≡ length cells → points (letters ++ l ∷ []) (cells ++ c ∷ []) ≡ points letters cells ++ record { letter = l; cell = c } ∷ []
+points-push [] [] l c e = refl
+points-push [] (d ∷ cells) l c e = absurd (omega arith)
+points-push (k ∷ letters) [] l c e = absurd (omega arith)
+points-push (k ∷ letters) (d ∷ cells) l c e = ap (λ r. record { letter = k; cell = d } ∷ r) (points-push letters cells l c (omega arith))
+
+letters_as_long : (g : List Point) → length (letters_of g) ≡ length g
+letters_as_long g = length-map g letter_of
+
+takes_as_long : (g : List Point) (cells : List Cell) (n : ℕ) → n ≤ length g → n ≤ length cells → length (take n (letters_of g)) ≡ length (take n cells)
+takes_as_long g cells n h k = length-take-le n (letters_of g) (rw (letters_as_long g) h) ∙ sym (length-take-le n cells k)
+
+-- one more point
+pub placed-next : (g : List Point) (cells : List Cell) (n : ℕ) (c : Cell) → n < length g → n < length cells → placed_points g (set cells n c) (n + 1) ≡ placed_points g cells n ++ record { letter = get_or (letters_of g) n 0; cell = c } ∷ []
+placed-next g cells n c h k =
+    rw (take_more (letters_of g) n 0 (rw (letters_as_long g) h), take_more_set cells n c k) (points-push (take n (letters_of g)) (take n cells) (get_or (letters_of g) n 0) c (takes_as_long g cells n (omega arith) (omega arith)))
+
+placed-more : (g : List Point) (cells : List Cell) (n : ℕ) (d : Cell) → n < length g → n < length cells → placed_points g cells (n + 1) ≡ placed_points g cells n ++ record { letter = get_or (letters_of g) n 0; cell = get_or cells n d } ∷ []
+placed-more g cells n d h k =
+    rw (take_more (letters_of g) n 0 (rw (letters_as_long g) h), take_more cells n d k) (points-push (take n (letters_of g)) (take n cells) (get_or (letters_of g) n 0) (get_or cells n d) (takes_as_long g cells n (omega arith) (omega arith)))
+
+-- ---- whether a point may come
+come-push : (s : List Point) (p q : Point) → may_come (s ++ p ∷ []) q ≡ (may_come s q && may_follow p q)
+come-push [] p q = and_end (may_follow p q)
+come-push (r ∷ s) p q = rw (come-push s p q) (regrouped (may_follow r q) (may_come s q) (may_follow p q))
+  where
+    regrouped : (a b c : Bool) → (a && (b && c)) ≡ (a && b && c)
+    regrouped true b c = refl
+    regrouped false b c = refl
+
+pub come-more : (g : List Point) (cells : List Cell) (n : ℕ) (d : Cell) (q : Point) → n < length g → n < length cells → may_come (placed_points g cells n) q ≡ true → may_follow (record { letter = get_or (letters_of g) n 0; cell = get_or cells n d }) q ≡ true → may_come (placed_points g cells (n + 1)) q ≡ true
+come-more g cells n d q h k e f =
+    rw (placed-more g cells n d h k) (come-push (placed_points g cells n) (record { letter = get_or (letters_of g) n 0; cell = get_or cells n d }) q ∙ both_true _ _ e f)
+
+-- one point that may not be followed
+come-fails-at : (letters : List ℕ) (cells : List Cell) (i n : ℕ) (d : Cell) (q : Point) → i < n → n ≤ length letters → n ≤ length cells → may_follow (record { letter = get_or letters i 0; cell = get_or cells i d }) q ≡ false → may_come (points (take n letters) (take n cells)) q ≡ false
+come-fails-at letters cells i zero d q h k l e = absurd (omega arith)
+come-fails-at [] cells i (suc n) d q h k l e = absurd (omega arith)
+come-fails-at (a ∷ letters) [] i (suc n) d q h k l e = absurd (omega arith)
+come-fails-at (a ∷ letters) (c ∷ cells) zero (suc n) d q h k l e = rw e refl
+come-fails-at (a ∷ letters) (c ∷ cells) (suc i) (suc n) d q h k l e =
+    rw (come-fails-at letters cells i n d q (omega arith) (omega arith) (omega arith) e) (and_none (may_follow (record { letter = a; cell = c }) q))
+
+pub come-fails : (g : List Point) (cells : List Cell) (i n : ℕ) (d : Cell) (q : Point) → i < n → n ≤ length g → n ≤ length cells → may_follow (record { letter = get_or (letters_of g) i 0; cell = get_or cells i d }) q ≡ false → may_come (placed_points g cells n) q ≡ false
+come-fails g cells i n d q h k l e = come-fails-at (letters_of g) cells i n d q h (rw (letters_as_long g) k) l e
+
+pub consistent-push : (s : List Point) (q : Point) → is_consistent s ≡ true → may_come s q ≡ true → is_consistent (s ++ q ∷ []) ≡ true
+consistent-push [] q e f = refl
+consistent-push (p ∷ s) q e f =
+    let a = and_true (list_all (λ r. may_follow p r) s) (is_consistent s) e in
+    let b = and_true (may_follow p q) (may_come s q) f in
+    both_true _ _ (all_and_last (λ r. may_follow p r) s q a.0 b.0) (consistent-push s q a.1 b.1)
+  where
+    all_and_last : (t : Point → Bool) (s : List Point) (q : Point) → list_all t s ≡ true → t q ≡ true → list_all t (s ++ q ∷ []) ≡ true
+    all_and_last t [] q e f = rw f refl
+    all_and_last t (r ∷ s) q e f = let a = and_true (t r) (list_all t s) e in both_true _ _ a.0 (all_and_last t s q a.1 f)
+
+-- ---- the point at a place
+pub letter_at : (g : List Point) (n : ℕ) → n < length g → get_or (letters_of g) n 0 ≡ (point_at g n).letter
+letter_at [] n h = absurd (omega arith)
+letter_at (p ∷ g) zero h = refl
+letter_at (p ∷ g) (suc n) h = letter_at g n (omega arith)
+
+pub cell_at_place : (g : List Point) (n : ℕ) (d : Cell) → n < length g → get_or (cells_of g) n d ≡ (point_at g n).cell
+cell_at_place [] n d h = absurd (omega arith)
+cell_at_place (p ∷ g) zero d h = refl
+cell_at_place (p ∷ g) (suc n) d h = cell_at_place g n d (omega arith)
+
+pub rest_from : (g : List Point) (n : ℕ) → n < length g → drop n g ≡ point_at g n ∷ drop (n + 1) g
+rest_from [] n h = absurd (omega arith)
+rest_from (p ∷ g) zero h = refl
+rest_from (p ∷ g) (suc n) h = let up : suc n + 1 ≡ suc (n + 1) = omega arith in rw up (rest_from g n (omega arith))
+
+pub inside_at : (m : GridMap) (g : List Point) (n : ℕ) → n < length g → fits_old m g ≡ true → ((point_at g n).cell.x < m.columns.lines) × ((point_at g n).cell.y < m.rows.lines)
+inside_at m [] n h e = absurd (omega arith)
+inside_at m (p ∷ g) zero h e =
+    let a = and_true (nat_lt p.cell.x m.columns.lines && nat_lt p.cell.y m.rows.lines) (fits_old m g) e in
+    let b = and_true (nat_lt p.cell.x m.columns.lines) (nat_lt p.cell.y m.rows.lines) a.0 in
+    (grind (arith, nat_tests, b.0), grind (arith, nat_tests, b.1))
+inside_at m (p ∷ g) (suc n) h e = inside_at m g n (omega arith) (and_true (nat_lt p.cell.x m.columns.lines && nat_lt p.cell.y m.rows.lines) (fits_old m g) e).1
+
+-- ---- all points are placed
+take_all : {X : Type 0} (xs : List X) (n : ℕ) → n ≡ length xs → take n xs ≡ xs
+take_all [] zero e = refl
+take_all [] (suc n) e = refl
+take_all (x ∷ xs) zero e = absurd (omega arith)
+take_all (x ∷ xs) (suc n) e = ap (λ r. x ∷ r) (take_all xs n (omega arith))
+
+pub placed_whole : (g : List Point) (cells : List Cell) (n : ℕ) → n ≡ length g → placed_points g cells n ≡ points (letters_of g) (take n cells)
+placed_whole g cells n e = ap (λ letters. points letters (take n cells)) (take_all (letters_of g) n (e ∙ sym (letters_as_long g)))
+
+below_points : (n : ℕ) (g : List Point) (cells : List Cell) → AllByRecursion (λ (p : Point). p.letter < n) g → AllByRecursion (λ (p : Point). p.letter < n) (points (letters_of g) cells)
+below_points n [] cells h = tt
+below_points n (p ∷ g) [] h = tt
+below_points n (p ∷ g) (c ∷ cells) h = (h.0, below_points n g cells h.1)
+
+pub placed_together : (g : List Point) (cells : List Cell) (n : ℕ) → IsGridded g → n ≡ length g → n ≤ length cells → is_consistent (placed_points g cells n) ≡ true → FitTogether (letters_of g) (take n cells)
+placed_together g cells n h e k f =
+    let as_many : length (letters_of g) ≡ length (take n cells) = letters_as_long g ∙ sym e ∙ sym (length-take-le n cells k) in
+    let long : length (points (letters_of g) (take n cells)) ≡ length g = length-points (letters_of g) (take n cells) as_many ∙ letters_as_long g in
+    record {
+      as_many = as_many;
+      gridded = record {
+        short = rw long h.short;
+        below = subst (λ k. All (λ (p : Point). p.letter < k) (points (letters_of g) (take n cells))) (sym long)
+            (All-from_recursion (λ (p : Point). p.letter < length g) (points (letters_of g) (take n cells)) (below_points (length g) g (take n cells) (recursion_from_All (λ (p : Point). p.letter < length g) g h.below)));
+        distinct = rw (letters_of-points (letters_of g) (take n cells) as_many) h.distinct;
+        consistent = so_is_true _ (ap is_consistent (sym (placed_whole g cells n e)) ∙ f);
+      };
+    }
+
+pub gridded_below : (g : List Point) → IsGridded g → AllByRecursion (λ (p : Point). p.letter < length g) g
+gridded_below g h = recursion_from_All (λ (p : Point). p.letter < length g) g h.below

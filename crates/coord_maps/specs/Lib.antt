@@ -1,0 +1,5 @@
+pub mod LineMaps
+pub mod GridMaps
+pub mod Preimages
+pub mod Stretches
+pub mod Laws
