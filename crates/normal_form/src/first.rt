@@ -1,0 +1,78 @@
+// The first step that applies.
+ghost use Rattle.std.specs.Prelude.{◌≡◌, ◌∷◌, [], find, map, true};
+ghost use Rattle.std.specs.List.{range_with_len};
+ghost use Rattle.gridded.specs.Grids.{cells_in};
+ghost use Rattle.tiling_core.specs.Tiles.{IsTiling};
+ghost use Rattle.steps.specs.Steps.{step_applies};
+ghost use Rattle.steps.specs.Traces.{first_step};
+ghost use Rattle.steps.specs.declared.Step.TheVariants.{Clean, Column, Row};
+
+use gridded::Cell;
+use steps::{Step, applies};
+use tiling_core::Tiling;
+
+/// The first cell of a column that can be cleaned, as a step.
+fn first_in_column(tiling: &Tiling, column: u8) -> Option<Step>
+    ensures { result ≡ find (λ s. step_applies s tiling.now) (map (λ y. Clean (record { x = column; y = y })) (range_with_len 0 tiling.now.height)) }
+{
+    (0..tiling.height())
+        .map(|row| Step::Clean(Cell { x: column, y: row }))
+        .find(|step| applies(*step, tiling))
+}
+
+/// The first cell that can be cleaned, as a step.
+fn first_cell(tiling: &Tiling) -> Option<Step>
+    ensures { result ≡ find (λ s. step_applies s tiling.now) (map (λ c. Clean c) (cells_in tiling.now.width tiling.now.height)) }
+{
+    for column in 0..tiling.width() {
+        if let Some(step) = first_in_column(tiling, column) {
+            return Some(step);
+        }
+    }
+    None
+}
+
+/// The first column that can go, as a step.
+fn first_column(tiling: &Tiling) -> Option<Step>
+    ensures { result ≡ find (λ s. step_applies s tiling.now) (map (λ x. Column x) (range_with_len 0 tiling.now.width)) }
+{
+    (0..tiling.width())
+        .map(|column| Step::Column(column))
+        .find(|step| applies(*step, tiling))
+}
+
+/// The first row that can go, as a step.
+fn first_row(tiling: &Tiling) -> Option<Step>
+    ensures { result ≡ find (λ s. step_applies s tiling.now) (map (λ y. Row y) (range_with_len 0 tiling.now.height)) }
+{
+    (0..tiling.height())
+        .map(|row| Step::Row(row))
+        .find(|step| applies(*step, tiling))
+}
+
+/// The first step that applies, in the order Void, Min, Clean by cells, Lists, columns from 0 on, rows from 0
+/// on. Takes no memory.
+#[tactic(auto, using(crate::proofs::Firsts::by_kind))]
+pub(crate) fn first_step(tiling: &Tiling) -> Option<Step>
+    ensures value { result ≡ first_step tiling.now }
+    ensures kept { IsTiling tiling.now }
+{
+    // What a tiling keeps is known once it is read.
+    let _width = tiling.width();
+    if applies(Step::Void, tiling) {
+        return Some(Step::Void);
+    }
+    if applies(Step::Min, tiling) {
+        return Some(Step::Min);
+    }
+    if let Some(step) = first_cell(tiling) {
+        return Some(step);
+    }
+    if applies(Step::Lists, tiling) {
+        return Some(Step::Lists);
+    }
+    if let Some(step) = first_column(tiling) {
+        return Some(step);
+    }
+    first_row(tiling)
+}

@@ -1,0 +1,12 @@
+//! The normal form of a tiling: steps as long as one applies (docs/RULES.md, "Reduction steps").
+#![tactic(auto)]
+
+mod first;
+mod form;
+mod law;
+
+pub use form::normalise;
+pub use law::{replays_keep_members, steps_shrink, traces_are_determined};
+
+#[cfg(test)]
+mod tests;

@@ -1,0 +1,5 @@
+pub mod Patterns
+pub mod Steps
+pub mod Traces
+pub mod Kept
+pub mod Refused

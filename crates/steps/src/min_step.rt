@@ -1,0 +1,90 @@
+// The patterns of a list that hold no other of it.
+ghost use Rattle.std.specs.Prelude.{◌≡◌, not, ◌&&◌, IfOk, length, nat_lt};
+ghost use Rattle.std.specs.List.{list_any, take_while};
+ghost use Rattle.std.specs.List.Sorted.{IsStrictlySortedBy};
+ghost use Rattle.gridded.specs.Grids.{holds, IsGridded};
+ghost use Rattle.gridded.specs.Orders.{gridded_eq, gridded_cmp};
+ghost use Rattle.tiling_core.specs.Tiles.{tiling_of, AreGridded};
+ghost use Rattle.tiling_core.specs.Patterns.{holds_another, minimal};
+
+use gridded::{Gridded, holds};
+use sequences::{Copied, Sequence};
+use std::alloc::{AllocError, Global};
+use tiling_core::Tiling;
+
+/// Whether g holds another pattern, which is then shorter.
+#[tactic(auto, using(crate::proofs::Minimal::shorter_and_held))]
+fn holds_other(g: &Gridded, pattern: &Gridded) -> bool
+    ensures { result ≡ (not (gridded_eq g.now pattern.now) && holds g.now pattern.now) }
+{
+    pattern.len() < g.len() && holds(g, pattern)
+}
+
+/// Whether g holds another pattern of a list. Takes no memory.
+pub(crate) fn holds_another(patterns: &[Gridded], g: &Gridded) -> bool
+    ensures { result ≡ holds_another patterns.now g.now }
+{
+    patterns.iter().any(|pattern| holds_other(g, pattern))
+}
+
+/// Whether g holds a pattern that stands before the first that is at least as long as g.
+fn holds_before(patterns: &[Gridded], g: &Gridded) -> bool
+    ensures value { result ≡ list_any (holds g.now) (take_while (λ p. nat_lt (length p) (length g.now)) patterns.now) }
+    ensures kept { IsGridded g.now }
+{
+    let length = g.len();
+    patterns
+        .iter()
+        .take_while(|pattern| pattern.len() < length)
+        .any(|pattern| holds(g, pattern))
+}
+
+/// Whether g holds another pattern of an ascending list: none from the first on that is as long is looked at.
+fn holds_shorter(patterns: &[Gridded], g: &Gridded) -> bool
+    requires gridded { AreGridded patterns.now }
+    requires ascending { IsStrictlySortedBy gridded_cmp patterns.now }
+    ensures { result ≡ holds_another patterns.now g.now }
+{
+    holds_before(patterns, g)
+}
+
+/// Whether some obstruction holds another. Takes no memory.
+pub(crate) fn is_redundant(tiling: &Tiling) -> bool
+    ensures { result ≡ list_any (holds_another tiling.now.obstructions) tiling.now.obstructions }
+{
+    let patterns = tiling.obstructions();
+    patterns.iter().any(|g| holds_shorter(patterns, g))
+}
+
+/// The patterns of a list that hold no other of it, in their order.
+pub(crate) fn minimal(alloc: Global, patterns: &[Gridded]) -> Result<Vec<Gridded>, AllocError>
+    ensures { IfOk result (λ kept. kept.items ≡ minimal patterns.now) }
+{
+    patterns
+        .iter()
+        .copied()
+        .filter(|g| !holds_another(patterns, g))
+        .collect(alloc)
+}
+
+/// The obstructions that hold no other, in their order.
+fn minimal_obstructions(alloc: Global, tiling: &Tiling) -> Result<Vec<Gridded>, AllocError>
+    ensures { IfOk result (λ kept. kept.items ≡ minimal tiling.now.obstructions) }
+{
+    let patterns = tiling.obstructions();
+    patterns
+        .iter()
+        .copied()
+        .filter(|g| !holds_shorter(patterns, g))
+        .collect(alloc)
+}
+
+/// The tiling without the obstructions that hold another.
+#[tactic(auto, using(crate::proofs::InGrid::minimal_in_grid))]
+pub(crate) fn without_redundant(alloc: Global, tiling: &Tiling) -> Result<Tiling, AllocError>
+    ensures { IfOk result (λ left. left ≡ tiling_of tiling.now.width tiling.now.height (minimal tiling.now.obstructions) tiling.now.requirements) }
+{
+    let obstructions = minimal_obstructions(alloc, tiling)?;
+    let lists = Sequence::copy_all(tiling.requirements(), alloc)?;
+    Tiling::in_grid(tiling.width(), tiling.height(), obstructions, lists)
+}
