@@ -1,0 +1,300 @@
+-- The search reaches every part of a member that is made of one occurrence for each list.
+use Rattle.std.proofs.Common.{◌≡◌, ℕ, ◌+◌, ◌-◌, ◌≤◌, Bool, true, false, cond, List, [], ◌∷◌, ◌++◌, length, refl, sym, ap, ◌∙◌, subst, arith, length-append, append_assoc}
+use Rattle.std.specs.Prelude.{◌&&◌, ◌||◌, not, map, nat_lt, ◌==◌}
+use Rattle.std.specs.List.{list_all, list_any, AllZip}
+use Rattle.std.proofs.lemmas.List.{length-map}
+use Rattle.std.proofs.lemmas.Bool.Decides.{Decides-eqb}
+use Rattle.patterns.specs.Parts.{IsPart, IsIn, NoRepeats}
+use Rattle.patterns.specs.Parts.IsIn.{here, later}
+use Rattle.patterns.specs.Parts.IsPart.{none, kept, left_out}
+use Rattle.patterns.specs.Parts.NoRepeats.{no_element, one_more}
+use Rattle.patterns.specs.Words.{has_no_repeats}
+use Rattle.patterns.specs.Ranks.{rank}
+use Rattle.patterns.specs.Occurs.{is_match}
+use Rattle.patterns.proofs.Booleans.{and_true, both_true, or_all, not_false}
+use Rattle.patterns.proofs.Lists.{IsIn-append_right}
+use Rattle.patterns.proofs.PartLaws.{IsPart-itself, IsPart-trans, IsPart-map}
+use Rattle.patterns.proofs.Occurrences.{occurs_decides, match_tells, match_from}
+use Rattle.gridded.specs.declared.cell.Cell.{Cell}
+use Rattle.gridded.specs.Grids.{Point, letter_of, cell_of, same_cell, is_consistent, is_gridded, holds, Holds}
+use Rattle.gridded.specs.Orders.{letters_of, cells_of, cell_eq}
+use Rattle.tiling_core.specs.Tiles.{Tiles, is_member, fits_grid}
+use Rattle.emptiness.specs.Insertion.{fits_at, inserted}
+use Rattle.emptiness.specs.Glueing.{stands_in, joins, joins_at, falls_on, glues_at, glues, reaches}
+use Rattle.emptiness.proofs.Inserted.{consistent-inserted}
+use Rattle.emptiness.proofs.Standard.{ranked, standard, standard-more, rank-small, holds-standard, member-standard, consistent-standard, consistent-part, all-part, any-agree}
+use Rattle.emptiness.proofs.Steps.{any_below-here}
+
+-- ---- parts
+IsPart-append : {X : Type 0} {a b c d : List X} → IsPart a b → IsPart c d → IsPart (a ++ c) (b ++ d)
+IsPart-append none k = k
+IsPart-append (kept x h) k = kept x (IsPart-append h k)
+IsPart-append (left_out x h) k = left_out x (IsPart-append h k)
+
+IsPart-longer : {X : Type 0} {a b : List X} (x : X) → IsPart a b → IsPart a (b ++ x ∷ [])
+IsPart-longer x none = left_out x none
+IsPart-longer x (kept y h) = kept y (IsPart-longer x h)
+IsPart-longer x (left_out y h) = left_out y (IsPart-longer x h)
+
+IsPart-nothing : {X : Type 0} (xs : List X) → IsPart [] xs
+IsPart-nothing [] = none
+IsPart-nothing (x ∷ xs) = left_out x (IsPart-nothing xs)
+
+from_IsPart : {X : Type 0} {x : X} {a b : List X} → IsPart a b → IsIn x a → IsIn x b
+from_IsPart none m = m
+from_IsPart (kept y h) here = here
+from_IsPart (kept y h) (later _ m) = later y (from_IsPart h m)
+from_IsPart (left_out y h) m = later y (from_IsPart h m)
+
+one-inside : {X : Type 0} (a b : List X) (x : X) → IsPart (a ++ b) (a ++ x ∷ b)
+one-inside [] b x = left_out x (IsPart-itself b)
+one-inside (y ∷ a) b x = kept y (one-inside a b x)
+
+pushed : {X : Type 0} (a b : List X) (x : X) → (a ++ x ∷ []) ++ b ≡ a ++ x ∷ b
+pushed a b x = append_assoc a (x ∷ []) b
+
+-- an element of a list without repeats isn't among the others
+apart : {X : Type 0} (a b : List X) (x : X) → NoRepeats (a ++ x ∷ b) → IsIn x (a ++ b) → ⊥
+apart [] b x (one_more out rest) m = out m
+apart (y ∷ a) b _ (one_more out rest) here = out (IsIn-append_right a here)
+apart (y ∷ a) b x (one_more out rest) (later _ m) = apart a b x rest m
+
+letters-append : (a b : List Point) → letters_of (a ++ b) ≡ letters_of a ++ letters_of b
+letters-append [] b = refl
+letters-append (p ∷ a) b = ap (λ rest. p.letter ∷ rest) (letters-append a b)
+
+own-cell : (c : Cell) → cell_eq c c ≡ true
+own-cell c = both_true (c.x == c.x) (c.y == c.y) ((Decides-eqb c.x c.x).1 refl) ((Decides-eqb c.y c.y).1 refl)
+
+stands-ranked : (ls : List ℕ) (a b : List Point) (x : Point) → stands_in (length a) x.cell (map (ranked ls) (a ++ x ∷ b)) ≡ true
+stands-ranked ls [] b x = own-cell x.cell
+stands-ranked ls (y ∷ a) b x = stands-ranked ls a b x
+
+length-standard : (c : List Point) → length (standard c) ≡ length c
+length-standard c = length-map c (ranked (letters_of c))
+
+-- what a member gives
+pub record Allows (obstructions : List (List Point)) (m : List Point) : Type 0 where
+  pub distinct : NoRepeats (letters_of m)
+  pub consistent : is_consistent m ≡ true
+  pub avoids : (c : List Point) → IsPart c m → list_any (λ p. holds (standard c) p) obstructions ≡ false
+
+module _ (obstructions : List (List Point)) (p m c0 : List Point) (next : List Point → Bool) (allows : Allows obstructions m) (done : (c : List Point) → IsPart c0 c → IsPart c m → Holds c p → next (standard c) ≡ true) where
+  -- what stands where the points of m before m2 have been passed: c1 of them are glued, and od of those are the occurrence's
+  record State (m1 m2 c1 c2 od os : List Point) (from : ℕ) : Type 0 where
+    whole : m1 ++ m2 ≡ m
+    before : IsPart c1 m1
+    occurrence : IsPart od c1
+    start : from ≤ length c1
+    match : is_match letter_of same_cell (od ++ os) p ≡ true
+    keeps : IsPart c0 (c1 ++ c2)
+
+  joined : (m1 m2 c1 c2 : List Point) (y : Point) (more : ℕ → List Point → Bool) → m1 ++ y ∷ m2 ≡ m → IsPart c1 m1 → IsPart c2 m2 → more (length c1 + 1) (standard (c1 ++ y ∷ c2)) ≡ true → glues_at obstructions more y.cell (standard (c1 ++ c2)) (length c1) ≡ true
+  joined m1 m2 c1 c2 y more whole h k e =
+      let part : IsPart (c1 ++ y ∷ c2) m = subst (λ w. IsPart (c1 ++ y ∷ c2) w) whole (IsPart-append h (kept y k)) in
+      let out : IsIn y.letter (letters_of (c1 ++ c2)) → ⊥ = λ z.
+      apart (letters_of m1) (letters_of m2) y.letter (subst (λ ls. NoRepeats ls) (ap letters_of (sym whole) ∙ letters-append m1 (y ∷ m2)) allows.distinct)
+      (subst (λ ls. IsIn y.letter ls) (letters-append m1 m2) (from_IsPart (IsPart-map letter_of (IsPart-append h k)) z)) in
+      let more_is = standard-more c1 c2 y out in
+      let l : ℕ = rank (letters_of (c1 ++ c2)) y.letter in
+      let consistent : is_consistent (inserted (length c1) l y.cell (standard (c1 ++ c2))) ≡ true = ap is_consistent (sym more_is) ∙ consistent-standard (c1 ++ y ∷ c2) ∙ consistent-part part allows.consistent in
+      let fits = and_true (fits_at (length c1) l y.cell (standard (c1 ++ c2))) (is_consistent (standard (c1 ++ c2))) (sym (consistent-inserted (length c1) l y.cell (standard (c1 ++ c2))) ∙ consistent) in
+      let avoids : list_any (λ q. holds (inserted (length c1) l y.cell (standard (c1 ++ c2))) q) obstructions ≡ false = ap (λ g. list_any (λ q. holds g q) obstructions) (sym more_is) ∙ allows.avoids (c1 ++ y ∷ c2) part in
+      let onward : more (length c1 + 1) (inserted (length c1) l y.cell (standard (c1 ++ c2))) ≡ true = ap (λ g. more (length c1 + 1) g) (sym more_is) ∙ e in
+      let one : joins obstructions more y.cell (standard (c1 ++ c2)) (length c1) l ≡ true =
+      both_true (fits_at (length c1) l y.cell (standard (c1 ++ c2))) (not (list_any (λ q. holds (inserted (length c1) l y.cell (standard (c1 ++ c2))) q) obstructions) && more (length c1 + 1) (inserted (length c1) l y.cell (standard (c1 ++ c2)))) fits.0
+      (both_true (not (list_any (λ q. holds (inserted (length c1) l y.cell (standard (c1 ++ c2))) q) obstructions)) (more (length c1 + 1) (inserted (length c1) l y.cell (standard (c1 ++ c2)))) (not_false (list_any (λ q. holds (inserted (length c1) l y.cell (standard (c1 ++ c2))) q) obstructions) avoids) onward) in
+      let small = rank-small (c1 ++ c2) y.letter in
+      let long = length-standard (c1 ++ c2) in
+      let at : joins_at obstructions more y.cell (standard (c1 ++ c2)) (length c1) ≡ true = any_below-here (λ i. joins obstructions more y.cell (standard (c1 ++ c2)) (length c1) i) 0 (length (standard (c1 ++ c2)) + 1) l (omega arith) (omega arith) one in
+      rw at (or_all (falls_on more y.cell (standard (c1 ++ c2)) (length c1)))
+
+  fallen : (c1 c2 : List Point) (y : Point) (more : ℕ → List Point → Bool) → more (length c1 + 1) (standard (c1 ++ y ∷ c2)) ≡ true → glues_at obstructions more y.cell (standard (c1 ++ y ∷ c2)) (length c1) ≡ true
+  fallen c1 c2 y more e =
+      let on : falls_on more y.cell (standard (c1 ++ y ∷ c2)) (length c1) ≡ true = both_true (stands_in (length c1) y.cell (standard (c1 ++ y ∷ c2))) (more (length c1 + 1) (standard (c1 ++ y ∷ c2))) (stands-ranked (letters_of (c1 ++ y ∷ c2)) c1 c2 y) e in
+      rw on refl
+
+  longer : (c : List Point) (y : Point) → length (c ++ y ∷ []) ≡ length c + 1
+  longer c y = length-append c (y ∷ []) ∙ omega arith
+
+  glued : (m1 m2 c1 c2 od os : List Point) (from : ℕ) → IsPart os m2 → IsPart c2 m2 → State m1 m2 c1 c2 od os from → glues obstructions p next (cells_of os) from (standard (c1 ++ c2)) ≡ true
+  unfolding glues
+  glued m1 [] c1 [] od [] from none none s =
+      let all : IsPart (c1 ++ []) m = subst (λ w. IsPart (c1 ++ []) w) s.whole (IsPart-append s.before none) in
+      let w = match_tells letter_of same_cell (od ++ []) p s.match in
+      let held : Holds (c1 ++ []) p = record { points = od ++ []; chosen = IsPart-append s.occurrence none; order = w.order; fit = w.fit } in
+      both_true (holds (standard (c1 ++ [])) p) (next (standard (c1 ++ []))) (holds-standard (c1 ++ []) p ∙ (occurs_decides letter_of same_cell (c1 ++ []) p).1 held) (done (c1 ++ []) s.keeps all held)
+  glued m1 (_ ∷ m2) c1 (_ ∷ c2) od (_ ∷ os) from (kept y h) (kept _ k) s =
+      let ih = glued (m1 ++ y ∷ []) m2 (c1 ++ y ∷ []) c2 (od ++ y ∷ []) os (length c1 + 1) h k (record {
+        whole = pushed m1 m2 y ∙ s.whole;
+        before = IsPart-append s.before (kept y none);
+        occurrence = IsPart-append s.occurrence (kept y none);
+        start = omega (arith, longer c1 y);
+        match = ap (λ w. is_match letter_of same_cell w p) (pushed od os y) ∙ s.match;
+        keeps = subst (λ w. IsPart c0 w) (sym (pushed c1 c2 y)) s.keeps;
+      }) in
+      let start = s.start in
+      any_below-here (λ i. glues_at obstructions (λ place g. glues obstructions p next (cells_of os) place g) y.cell (standard (c1 ++ y ∷ c2)) i) from (length (standard (c1 ++ y ∷ c2)) + 1 - from) (length c1) s.start
+      (omega (arith, length-standard (c1 ++ y ∷ c2), length-append c1 (y ∷ c2)))
+      (fallen c1 c2 y (λ place g. glues obstructions p next (cells_of os) place g) (ap (λ w. glues obstructions p next (cells_of os) (length c1 + 1) (standard w)) (sym (pushed c1 c2 y)) ∙ ih))
+  glued m1 (_ ∷ m2) c1 c2 od (_ ∷ os) from (kept y h) (left_out _ k) s =
+      let ih = glued (m1 ++ y ∷ []) m2 (c1 ++ y ∷ []) c2 (od ++ y ∷ []) os (length c1 + 1) h k (record {
+        whole = pushed m1 m2 y ∙ s.whole;
+        before = IsPart-append s.before (kept y none);
+        occurrence = IsPart-append s.occurrence (kept y none);
+        start = omega (arith, longer c1 y);
+        match = ap (λ w. is_match letter_of same_cell w p) (pushed od os y) ∙ s.match;
+        keeps = subst (λ w. IsPart c0 w) (sym (pushed c1 c2 y)) (IsPart-trans s.keeps (one-inside c1 c2 y));
+      }) in
+      let start = s.start in
+      any_below-here (λ i. glues_at obstructions (λ place g. glues obstructions p next (cells_of os) place g) y.cell (standard (c1 ++ c2)) i) from (length (standard (c1 ++ c2)) + 1 - from) (length c1) s.start
+      (omega (arith, length-standard (c1 ++ c2), length-append c1 c2))
+      (joined m1 m2 c1 c2 y (λ place g. glues obstructions p next (cells_of os) place g) s.whole s.before k (ap (λ w. glues obstructions p next (cells_of os) (length c1 + 1) (standard w)) (sym (pushed c1 c2 y)) ∙ ih))
+  glued m1 (_ ∷ m2) c1 (_ ∷ c2) od os from (left_out y h) (kept _ k) s =
+      let ih = glued (m1 ++ y ∷ []) m2 (c1 ++ y ∷ []) c2 od os from h k (record {
+        whole = pushed m1 m2 y ∙ s.whole;
+        before = IsPart-append s.before (kept y none);
+        occurrence = IsPart-longer y s.occurrence;
+        start = omega (arith, longer c1 y, s.start);
+        match = s.match;
+        keeps = subst (λ w. IsPart c0 w) (sym (pushed c1 c2 y)) s.keeps;
+      }) in
+      ap (λ w. glues obstructions p next (cells_of os) from (standard w)) (sym (pushed c1 c2 y)) ∙ ih
+  glued m1 (_ ∷ m2) c1 c2 od os from (left_out y h) (left_out _ k) s =
+      glued (m1 ++ y ∷ []) m2 c1 c2 od os from h k (record {
+        whole = pushed m1 m2 y ∙ s.whole;
+        before = IsPart-longer y s.before;
+        occurrence = s.occurrence;
+        start = s.start;
+        match = s.match;
+        keeps = s.keeps;
+      })
+  glued m1 [] c1 [] od (_ ∷ os) from k _ s = elim k [ ]
+  glued m1 [] c1 (_ ∷ c2) od os from _ k s = elim k [ ]
+
+  same-cells : (os q : List Point) → AllZip (λ x a. same_cell x a ≡ true) os q → cells_of os ≡ cells_of q
+  same-cells [] [] f = refl
+  same-cells [] (a ∷ q) f = absurd f
+  same-cells (x ∷ os) [] f = absurd f
+  same-cells (x ∷ os) (a ∷ q) f =
+      let k = and_true (x.cell.x == a.cell.x) (x.cell.y == a.cell.y) f.0 in
+      let ex = (Decides-eqb x.cell.x a.cell.x).0 k.0 in
+      let ey = (Decides-eqb x.cell.y a.cell.y).0 k.1 in
+      let rest = same-cells os q f.1 in
+      λ i. record { x = ex i; y = ey i } ∷ rest i
+
+  -- the pattern can be glued to a part of m where m holds it
+  pub glued-whole : Holds m p → IsPart c0 m → glues obstructions p next (cells_of p) 0 (standard c0) ≡ true
+  glued-whole h k =
+      let o = h.points in
+      ap (λ cs. glues obstructions p next cs 0 (standard c0)) (sym (same-cells o p h.fit))
+      ∙ glued [] m [] c0 [] o 0 h.chosen k (record {
+        whole = refl;
+        before = none;
+        occurrence = none;
+        start = omega arith;
+        match = match_from letter_of same_cell o p (record { order = h.order; fit = h.fit });
+        keeps = IsPart-itself c0;
+      })
+
+-- ---- tests of lists
+pub one-passes : {X : Type 0} (test : X → Bool) (xs : List X) → list_any test xs ≡ true → (x : X) × IsIn x xs × (test x ≡ true)
+one-passes test [] e = absurd cc
+one-passes {X} test (x ∷ xs) e = go (test x) refl e (one-passes test xs)
+  where
+    go : (b : Bool) → test x ≡ b → (b || list_any test xs) ≡ true → (list_any test xs ≡ true → (z : X) × IsIn z xs × (test z ≡ true)) → (z : X) × IsIn z (x ∷ xs) × (test z ≡ true)
+    go true f k ih = (x, here, f)
+    go false f k ih = let m = ih k in (m.0, later x m.1, m.2)
+
+pub some-passes : {X : Type 0} (test : X → Bool) {x : X} {xs : List X} → IsIn x xs → test x ≡ true → list_any test xs ≡ true
+some-passes test here e = rw e refl
+some-passes test (later {xs = xs} y h) e = rw (some-passes test h e) (or_all (test y))
+
+pub each-passes : {X : Type 0} (test : X → Bool) {x : X} {xs : List X} → IsIn x xs → list_all test xs ≡ true → test x ≡ true
+each-passes test {x = x} (here {xs = xs}) e = (and_true (test x) (list_all test xs) e).0
+each-passes test (later {xs = xs} y h) e = each-passes test h (and_true (test y) (list_all test xs) e).1
+
+pub all-pass : {X : Type 0} (test : X → Bool) (xs : List X) → ((x : X) → IsIn x xs → test x ≡ true) → list_all test xs ≡ true
+all-pass test [] f = refl
+all-pass test (x ∷ xs) f = both_true (test x) (list_all test xs) (f x here) (all-pass test xs (λ z h. f z (later x h)))
+
+pub false-from : (b : Bool) → (b ≡ true → ⊥) → b ≡ false
+false-from true f = absurd (f refl)
+false-from false f = refl
+
+not-both : (b : Bool) → not b ≡ true → b ≡ true → ⊥
+not-both true e f = cc
+not-both false e f = cc
+
+-- a longer part holds what a shorter one does
+holds-longer : {a b : List Point} (p : List Point) → IsPart a b → holds a p ≡ true → holds b p ≡ true
+holds-longer {a} {b} p k e =
+    let h = (occurs_decides letter_of same_cell a p).0 e in
+    (occurs_decides letter_of same_cell b p).1 (record { points = h.points; chosen = IsPart-trans h.chosen k; order = h.order; fit = h.fit })
+
+one-longer : {a b : List Point} (ps : List (List Point)) → IsPart a b → list_any (λ p. holds a p) ps ≡ true → list_any (λ p. holds b p) ps ≡ true
+one-longer {a} {b} ps k e = let w = one-passes (λ p. holds a p) ps e in some-passes (λ p. holds b p) w.1 (holds-longer w.0 k w.2)
+
+-- ---- the lists, one after another
+abbrev Meets : List Point → List (List (List Point)) → Type 0
+Meets c lists = list_all (λ ps. list_any (λ p. holds c p) ps) lists ≡ true
+
+-- from any part of a member, a member is reached
+pub reached : (t : Tiles) (m : List Point) → Allows t.obstructions m → (lists : List (List (List Point))) (c : List Point) → IsPart c m → Meets m lists → ((d : List Point) → IsPart c d → IsPart d m → Meets d lists → is_member t d ≡ true) → reaches t lists (standard c) ≡ true
+unfolding reaches
+reached t m allows [] c k meets rest = member-standard t c ∙ rest c (IsPart-itself c) k refl
+reached t m allows (ps ∷ lists) c k meets rest =
+    let both = and_true (list_any (λ p. holds m p) ps) (list_all (λ qs. list_any (λ p. holds m p) qs) lists) meets in
+    go (list_any (λ p. holds (standard c) p) ps) refl both.0
+    (λ d a b e. reached t m allows lists d b both.1 (λ f q r s. rest f (IsPart-trans a q) r (both_true (list_any (λ p. holds f p) ps) (list_all (λ qs. list_any (λ p. holds f p) qs) lists) (one-longer ps q e) s)))
+  where
+    go : (b : Bool) → list_any (λ p. holds (standard c) p) ps ≡ b → list_any (λ p. holds m p) ps ≡ true → ((d : List Point) → IsPart c d → IsPart d m → list_any (λ p. holds d p) ps ≡ true → reaches t lists (standard d) ≡ true)
+        → cond b (reaches t lists (standard c)) (list_any (λ p. glues t.obstructions p (λ h. reaches t lists h) (cells_of p) 0 (standard c)) ps) ≡ true
+    go true e f ih = ih c (IsPart-itself c) k (sym (any-agree (λ p. holds (standard c) p) (λ p. holds c p) (λ p. holds-standard c p) ps) ∙ e)
+    go false e f ih =
+        let w = one-passes (λ p. holds m p) ps f in
+        some-passes (λ p. glues t.obstructions p (λ h. reaches t lists h) (cells_of p) 0 (standard c)) w.1
+        (glued-whole t.obstructions w.0 m c (λ h. reaches t lists h) allows (λ d a b h. ih d a b (some-passes (λ p. holds d p) w.1 ((occurs_decides letter_of same_cell d w.0).1 h))) ((occurs_decides letter_of same_cell m w.0).0 w.2) k)
+
+-- ---- members
+distinct_tells : (xs : List ℕ) → has_no_repeats xs ≡ true → NoRepeats xs
+distinct_tells [] e = no_element
+distinct_tells (x ∷ xs) e =
+    let k = and_true (not (list_any (λ y. x == y) xs)) (has_no_repeats xs) e in
+    one_more (λ h. not-both (list_any (λ y. x == y) xs) k.0 (some-passes (λ y. x == y) h ((Decides-eqb x x).1 refl))) (distinct_tells xs k.1)
+
+module _ (t : Tiles) (m : List Point) (gridded : is_gridded m ≡ true) (belongs : is_member t m ≡ true) where
+  avoided : list_all (λ p. not (holds m p)) t.obstructions ≡ true
+  avoided = (and_true (list_all (λ p. not (holds m p)) t.obstructions) (list_all (λ ps. list_any (λ p. holds m p) ps) t.requirements) (and_true (fits_grid t.width t.height m) (list_all (λ p. not (holds m p)) t.obstructions && list_all (λ ps. list_any (λ p. holds m p) ps) t.requirements) belongs).1).0
+
+  met : Meets m t.requirements
+  met = (and_true (list_all (λ p. not (holds m p)) t.obstructions) (list_all (λ ps. list_any (λ p. holds m p) ps) t.requirements) (and_true (fits_grid t.width t.height m) (list_all (λ p. not (holds m p)) t.obstructions && list_all (λ ps. list_any (λ p. holds m p) ps) t.requirements) belongs).1).1
+
+  in_grid : fits_grid t.width t.height m ≡ true
+  in_grid = (and_true (fits_grid t.width t.height m) (list_all (λ p. not (holds m p)) t.obstructions && list_all (λ ps. list_any (λ p. holds m p) ps) t.requirements) belongs).0
+
+  not_held : (c p : List Point) → IsPart c m → IsIn p t.obstructions → holds c p ≡ false
+  not_held c p k h = false-from (holds c p) (λ e. not-both (holds m p) (each-passes (λ q. not (holds m q)) h avoided) (holds-longer p k e))
+
+  allowed : Allows t.obstructions m
+  allowed = record {
+    distinct = distinct_tells (map letter_of m) (and_true (has_no_repeats (map letter_of m)) (is_consistent m) gridded).0;
+    consistent = (and_true (has_no_repeats (map letter_of m)) (is_consistent m) gridded).1;
+    avoids = λ c k. false-from (list_any (λ p. holds (standard c) p) t.obstructions) (λ e. let w = one-passes (λ p. holds (standard c) p) t.obstructions e in
+        let no = not_held c w.0 k w.1 in let yes = sym (holds-standard c w.0) ∙ w.2 in absurd cc);
+  }
+
+  part_belongs : (d : List Point) → IsPart d m → Meets d t.requirements → is_member t d ≡ true
+  part_belongs d k e =
+      both_true (fits_grid t.width t.height d) (list_all (λ p. not (holds d p)) t.obstructions && list_all (λ ps. list_any (λ p. holds d p) ps) t.requirements)
+      (all-part (λ c. nat_lt c.x t.width && nat_lt c.y t.height) (IsPart-map cell_of k) in_grid)
+      (both_true (list_all (λ p. not (holds d p)) t.obstructions) (list_all (λ ps. list_any (λ p. holds d p) ps) t.requirements) (all-pass (λ p. not (holds d p)) t.obstructions (λ p h. not_false (holds d p) (not_held d p k h))) e)
+
+  -- a member is reached where there is one
+  pub reached-from_member : reaches t t.requirements [] ≡ true
+  reached-from_member = reached t m allowed t.requirements [] (IsPart-nothing m) met (λ d a b e. part_belongs d b e)
+
+  -- and one that holds p where one holds it
+  pub glued-from_member : (p : List Point) → Holds m p → glues t.obstructions p (λ h. reaches t t.requirements h) (cells_of p) 0 [] ≡ true
+  glued-from_member p h =
+      glued-whole t.obstructions p m [] (λ g. reaches t t.requirements g) allowed (λ c a b k. reached t m allowed t.requirements c b met (λ d q r e. part_belongs d r e)) h (IsPart-nothing m)

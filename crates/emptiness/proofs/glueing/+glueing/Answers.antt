@@ -1,0 +1,101 @@
+use Rattle.std.proofs.Common.{rules, arith, ◌≡◌, ◌<◌, ◌≤◌, ◌+◌, ◌-◌, ℕ, Bool, true, false, length, drop, sym, ap, ◌∙◌, refl, subst, get_or, List}
+use Rattle.std.specs.List.{list_any, range_with_len}
+use Rattle.std.proofs.lemmas.List.{length-map, take_all}
+use Rattle.std.proofs.lemmas.List.Folds.{list_any_at}
+use Rattle.gridded.specs.Grids.{Point, cell_of, holds}
+use Rattle.gridded.specs.Orders.{cells_of}
+use Rattle.emptiness.specs.Glueing.{reaches, glues, glues_at, joins, onward, corner}
+use Rattle.emptiness.proofs.Inserted.{length-inserted}
+use Rattle.emptiness.proofs.Steps.{stands-within, any_below-more, any_below-here, any_from_start-more, still-there, glues-end, glues-step, reaches-end, reaches-step, weight-step, longest-at}
+use Rattle.emptiness.proofs.glueing.+glueing.Goals as goal
+
+pub falls_on-glues-requires : goal.falls_on-glues-requires
+falls_on-glues-requires t c =
+    let there = stands-within c.args.place _ c.args.g.now (sym c.stands_in.ensures ∙ c.if-stands_in.true) in
+    (search rules, (omega arith, (omega arith, (omega arith, omega arith))))
+
+pub glues-returns-then-holds : goal.glues-returns-then-holds
+glues-returns-then-holds t c =
+    let N : List Point → Bool = λ h. reaches c.args.tiling.now (drop c.args.list c.args.tiling.now.requirements) h in
+    let past : length (cells_of c.args.pattern.now) ≤ c.args.taken = omega (arith, ap (λ s. length s) c.cells.ensures.value) in
+    let held : holds c.args.g.now c.args.pattern.now ≡ true = sym c.holds.ensures.tested ∙ c.if-holds.true in
+    c.reaches.ensures ∙ sym (glues-end c.args.tiling.now.obstructions c.args.pattern.now N (cells_of c.args.pattern.now) c.args.taken c.args.from c.args.g.now past ∙ rw held refl)
+
+pub glues-returns-else-holds : goal.glues-returns-else-holds
+glues-returns-else-holds t c =
+    let N : List Point → Bool = λ h. reaches c.args.tiling.now (drop c.args.list c.args.tiling.now.requirements) h in
+    let past : length (cells_of c.args.pattern.now) ≤ c.args.taken = omega (arith, ap (λ s. length s) c.cells.ensures.value) in
+    let held : holds c.args.g.now c.args.pattern.now ≡ false = sym c.holds.ensures.tested ∙ c.if-holds.false in
+    c.if-holds.false ∙ sym (glues-end c.args.tiling.now.obstructions c.args.pattern.now N (cells_of c.args.pattern.now) c.args.taken c.args.from c.args.g.now past ∙ rw held refl)
+
+pub glues-returns-then-glues_at : goal.glues-returns-then-glues_at
+glues-returns-then-glues_at t c =
+    let N : List Point → Bool = λ h. reaches c.args.tiling.now (drop c.args.list c.args.tiling.now.requirements) h in
+    let F : ℕ → Bool = λ i. glues_at c.args.tiling.now.obstructions (onward c.args.tiling.now c.args.pattern.now c.args.list c.args.taken) (get_or (cells_of c.args.pattern.now) c.args.taken corner) c.args.g.now i in
+    let not_all : c.args.taken < length (cells_of c.args.pattern.now) = omega (arith, length-map c.args.pattern.now cell_of, ap (λ s. length s) c.cells.ensures.value) in
+    let many : length c.cells-2.result.now ≡ length c.args.g.now = ap (λ s. length s) c.cells-2.ensures.value ∙ length-map c.args.g.now cell_of in
+    sym (glues-step c.args.tiling.now.obstructions c.args.pattern.now N (cells_of c.args.pattern.now) c.args.taken c.args.from c.args.g.now not_all
+    ∙ any_below-here F c.args.from (length c.args.g.now + 1 - c.args.from) c.loop-place.place (omega arith) (omega arith) (sym c.glues_at.ensures ∙ c.if-glues_at.true))
+
+pub glues-loop-place-preserved : goal.glues-loop-place-preserved
+glues-loop-place-preserved t c =
+    let F : ℕ → Bool = λ i. glues_at c.args.tiling.now.obstructions (onward c.args.tiling.now c.args.pattern.now c.args.list c.args.taken) (get_or (cells_of c.args.pattern.now) c.args.taken corner) c.args.g.now i in
+    any_below-more F c.args.from c.loop-place.place (omega arith) c.loop-place.invariant (sym c.glues_at.ensures ∙ c.if-glues_at.false)
+
+pub glues-returns : goal.glues-returns
+glues-returns t c =
+    let N : List Point → Bool = λ h. reaches c.args.tiling.now (drop c.args.list c.args.tiling.now.requirements) h in
+    let F : ℕ → Bool = λ i. glues_at c.args.tiling.now.obstructions (onward c.args.tiling.now c.args.pattern.now c.args.list c.args.taken) (get_or (cells_of c.args.pattern.now) c.args.taken corner) c.args.g.now i in
+    let not_all : c.args.taken < length (cells_of c.args.pattern.now) = omega (arith, length-map c.args.pattern.now cell_of, ap (λ s. length s) c.cells.ensures.value) in
+    let many : length c.cells-2.result.now ≡ length c.args.g.now = ap (λ s. length s) c.cells-2.ensures.value ∙ length-map c.args.g.now cell_of in
+    let done : c.loop-place.place ≡ length c.args.g.now + 1 = omega arith in
+    sym (glues-step c.args.tiling.now.obstructions c.args.pattern.now N (cells_of c.args.pattern.now) c.args.taken c.args.from c.args.g.now not_all
+    ∙ subst (λ (m : ℕ). list_any F (range_with_len c.args.from (m - c.args.from)) ≡ false) done c.loop-place.invariant)
+
+pub joins-glues-requires : goal.joins-glues-requires
+joins-glues-requires t c =
+    let longer : length c.inserted-longer.result ≡ length c.args.g.now + 1 = ap (λ s. length s) c.inserted-longer.ensures ∙ length-inserted _ _ _ c.args.g.now ∙ omega arith in
+    (search rules, (omega arith, (omega arith, (omega arith, omega arith))))
+
+pub joins_at-returns-then-joins : goal.joins_at-returns-then-joins
+joins_at-returns-then-joins t c =
+    let F : ℕ → Bool = λ m. joins c.args.tiling.now.obstructions (onward c.args.tiling.now c.args.pattern.now c.args.list c.args.taken) (get_or (cells_of c.args.pattern.now) c.args.taken corner) c.args.g.now c.args.place m in
+    let many : length c.cells.result.now ≡ length c.args.g.now = ap (λ s. length s) c.cells.ensures.value ∙ length-map c.args.g.now cell_of in
+    sym (any_below-here F 0 (length c.args.g.now + 1) c.loop-letter.letter (omega arith) (omega arith) (sym c.joins.ensures ∙ c.if-joins.true))
+
+pub joins_at-loop-letter-preserved : goal.joins_at-loop-letter-preserved
+joins_at-loop-letter-preserved t c =
+    let F : ℕ → Bool = λ m. joins c.args.tiling.now.obstructions (onward c.args.tiling.now c.args.pattern.now c.args.list c.args.taken) (get_or (cells_of c.args.pattern.now) c.args.taken corner) c.args.g.now c.args.place m in
+    any_from_start-more F c.loop-letter.letter c.loop-letter.invariant (sym c.joins.ensures ∙ c.if-joins.false)
+
+pub reaches-returns-then-list-requirements : goal.reaches-returns-then-list-requirements
+reaches-returns-then-list-requirements t c = c.member.ensures.value ∙ sym (reaches-end c.args.tiling.now c.args.tiling.now.requirements c.args.list c.args.g.now (omega (arith, ap (λ s. length s) c.requirements.ensures.value)))
+
+pub reaches-returns-then-holds_one : goal.reaches-returns-then-holds_one
+reaches-returns-then-holds_one t c =
+    let listed = still-there c.requirements-2.result.now c.args.tiling.now.requirements c.args.list c.index-requirements-list.result c.as_slice-patterns.result.now c.requirements-2.ensures.value c.index-requirements-list.is c.as_slice-patterns.ensures in
+    let inside : c.args.list < length c.args.tiling.now.requirements = omega (arith, ap (λ s. length s) c.requirements.ensures.value) in
+    c.reaches.ensures ∙ sym (reaches-step c.args.tiling.now c.args.tiling.now.requirements c.args.list c.as_slice-patterns.result.now c.args.g.now inside listed ∙ rw (sym c.holds_one.ensures ∙ c.if-holds_one.true) refl)
+
+pub reaches-glues-requires : goal.reaches-glues-requires
+reaches-glues-requires t c =
+    let listed = still-there c.requirements-2.result.now c.args.tiling.now.requirements c.args.list c.index-requirements-list.result c.as_slice-patterns.result.now c.requirements-2.ensures.value c.index-requirements-list.is c.as_slice-patterns.ensures in
+    let inside : c.args.list < length c.args.tiling.now.requirements = omega (arith, ap (λ s. length s) c.requirements.ensures.value) in
+    let sum = weight-step c.args.tiling.now.requirements c.args.list c.as_slice-patterns.result.now inside listed in
+    let small = longest-at c.as_slice-patterns.result.now c.loop-pattern.pattern-index c.pattern-item.result c.loop-pattern-test.true c.pattern-item.is in
+    (search rules, (omega arith, (omega arith, (omega arith, omega arith))))
+
+pub reaches-returns-then-glues : goal.reaches-returns-then-glues
+reaches-returns-then-glues t c =
+    let listed = still-there c.requirements-2.result.now c.args.tiling.now.requirements c.args.list c.index-requirements-list.result c.as_slice-patterns.result.now c.requirements-2.ensures.value c.index-requirements-list.is c.as_slice-patterns.ensures in
+    let inside : c.args.list < length c.args.tiling.now.requirements = omega (arith, ap (λ s. length s) c.requirements.ensures.value) in
+    let G : List Point → Bool = λ p. glues c.args.tiling.now.obstructions p (λ h. reaches c.args.tiling.now (drop (c.args.list + 1) c.args.tiling.now.requirements) h) (cells_of p) 0 c.args.g.now in
+    let here : G (get_or c.as_slice-patterns.result.now c.loop-pattern.pattern-index c.pattern-item.result) ≡ true = rw (sym c.pattern-item.is) (sym c.glues.ensures ∙ c.if-glues.true) in
+    sym (reaches-step c.args.tiling.now c.args.tiling.now.requirements c.args.list c.as_slice-patterns.result.now c.args.g.now inside listed ∙ rw (sym c.holds_one.ensures ∙ c.if-holds_one.false) (list_any_at G c.as_slice-patterns.result.now c.loop-pattern.pattern-index c.pattern-item.result c.loop-pattern-test.true here))
+
+pub reaches-returns : goal.reaches-returns
+reaches-returns t c =
+    let listed = still-there c.requirements-2.result.now c.args.tiling.now.requirements c.args.list c.index-requirements-list.result c.as_slice-patterns.result.now c.requirements-2.ensures.value c.index-requirements-list.is c.as_slice-patterns.ensures in
+    let inside : c.args.list < length c.args.tiling.now.requirements = omega (arith, ap (λ s. length s) c.requirements.ensures.value) in
+    let done = take_all c.loop-pattern.pattern-index c.as_slice-patterns.result.now (omega arith) in
+    sym (reaches-step c.args.tiling.now c.args.tiling.now.requirements c.args.list c.as_slice-patterns.result.now c.args.g.now inside listed ∙ rw (sym c.holds_one.ensures ∙ c.if-holds_one.false) (rw done at c.loop-pattern.invariant))

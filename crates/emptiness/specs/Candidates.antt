@@ -1,0 +1,33 @@
+-- The patterns of one or two points in some cells.
+use Rattle.std.specs.Prelude.{ℕ, Bool, not, ◌&&◌, nat_le, cond, List, [], ◌∷◌, ◌++◌, filter, map}
+use Rattle.std.specs.List.{flat_map, range_with_len, list_any}
+use Rattle.gridded.specs.declared.cell.Cell.{Cell}
+use Rattle.gridded.specs.Grids.{Point, holds}
+use Rattle.gridded.specs.Orders.{cells_of}
+use Rattle.tiling_core.specs.Tiles.{Tiles}
+use Rattle.gridded.specs.CellSets.{is_among}
+use Rattle.tiling_core.specs.Patterns.{point_at, rising, falling}
+use Rattle.emptiness.specs.Glueing.{glues, reaches}
+
+-- the cell, where it is in the set
+abbrev pub one_of : List Cell → Cell → List Cell
+one_of set c = cond (is_among set c) (c ∷ []) []
+
+-- those of the n lowest cells of a column that are in the set
+abbrev pub column_of : List Cell → ℕ → ℕ → List Cell
+column_of set x n = filter (λ c. is_among set c) (map (λ y. record { x = x; y = y }) (range_with_len 0 n))
+
+-- a point in c, and right of it one in d
+abbrev pub pairs_of : Cell → Cell → List (List Point)
+pairs_of c d = cond (nat_le c.x d.x) (cond (nat_le c.y d.y) (rising c d ∷ []) [] ++ cond (nat_le d.y c.y) (falling c d ∷ []) []) []
+
+-- a point in c, alone or with one in the cells to the right of it
+abbrev pub candidates_with : List Cell → Cell → List (List Point)
+candidates_with cells c = point_at c ∷ flat_map (λ d. pairs_of c d) cells
+
+abbrev pub candidates_of : List Cell → List (List Point)
+candidates_of cells = flat_map (λ c. candidates_with cells c) cells
+
+-- whether p holds no obstruction, and no member holds it
+abbrev pub is_unheld : Tiles → List Point → Bool
+is_unheld t p = not (list_any (λ o. holds p o) t.obstructions) && not (glues t.obstructions p (λ h. reaches t t.requirements h) (cells_of p) 0 [])

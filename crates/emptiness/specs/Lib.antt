@@ -1,0 +1,5 @@
+pub mod Insertion
+pub mod Glueing
+pub mod Emptiness
+pub mod Candidates
+pub mod Refused
