@@ -1,0 +1,9 @@
+pub mod Shapes
+pub mod Added
+pub mod Records
+pub mod Standing
+pub mod Meanings
+pub mod Ledgers
+pub mod Entries
+pub mod LedgerFacts
+pub mod Reasons

@@ -1,0 +1,8 @@
+pub mod Caps
+pub mod Sums
+pub mod Shown
+pub mod RankOrder
+pub mod Evaluation
+pub mod Passes
+pub mod Cuts
+mod TermRows

@@ -1,0 +1,19 @@
+-- The next length adds the product of the two terms.
+use Rattle.std.proofs.Common.{◌*◌, ◌-◌, ℕ, ap, sym, ◌∙◌, arith}
+use Rattle.std.specs.Prelude.{sum_by}
+use Rattle.std.specs.List.{range_with_len}
+use Rattle.css_terms.specs.Terms.{capped}
+use Rattle.css_terms.proofs.Sums.{sum_next, as_far}
+use Rattle.css_terms.proofs.series.convolution_at.Goals as goal
+
+pub loop-k-preserved : goal.loop-k-preserved
+loop-k-preserved c = λ f g h s.
+    let k = c.loop-k.k in
+    let n = c.args.n in
+    let term : ℕ → ℕ = λ j. f j * g (n - j) in
+    c.plus-total.ensures.capped (sum_by term (range_with_len 0 k)) (term k) (c.loop-k.invariant f g h s)
+    (c.times.ensures.capped (f k) (g (n - k)) (c.term_at.ensures ∙ h k) (s (n - k) (omega (arith, c.requires))))
+    ∙ ap capped (sym (sum_next term k))
+
+pub returns : goal.returns
+returns c = λ f g h s. c.loop-k.invariant f g h s ∙ ap capped (as_far (λ j. f j * g (c.args.n - j)) c.loop-k.k c.args.n (omega (arith, c.loop-k-test.false, c.loop-k.auto.k-end)))

@@ -1,0 +1,16 @@
+//! Terms of a counting sequence, capped at 2^128, and their evaluation over the entries of a specification
+//! (docs/RULES.md, "Terms").
+#![tactic(auto)]
+
+mod evaluate;
+mod order;
+mod rows;
+mod series;
+mod term;
+#[cfg(test)]
+mod tests;
+mod value;
+
+pub use evaluate::terms_of_rows;
+pub use rows::Row;
+pub use term::Term;
