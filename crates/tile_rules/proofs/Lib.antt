@@ -1,0 +1,11 @@
+pub mod Texts
+pub mod Entries
+pub mod CarryRows
+pub mod ChildRows
+pub mod LawRows
+pub mod OneCell
+pub mod Joined
+pub mod ListTests
+pub mod NoMembers
+pub mod RuleCounts
+pub mod Applying

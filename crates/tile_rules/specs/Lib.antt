@@ -1,0 +1,14 @@
+pub mod Pointeds
+pub mod Lines
+pub mod Kinds
+pub mod Children
+pub mod Conditions
+pub mod Follows
+pub mod Carry
+pub mod Choices
+pub mod Least
+pub mod Complete
+pub mod Meaning
+pub mod Avoiding
+pub mod Counting
+pub mod Built
