@@ -1,0 +1,69 @@
+ghost use Rattle.std.specs.Prelude.{◌≡◌, ◌++◌, ◌∷◌, [], List, ℕ, OnOk, flat_map, map, decimal};
+ghost use Rattle.spec_text.specs.Lines.{each_after, separated};
+
+use itoa::Buffer;
+use std::alloc::AllocError;
+
+/// What has a text in a specification.
+pub(crate) trait Spell {
+    ghost text: { Self → List ℕ };
+
+    /// Appends the text. Where there is no memory, a part of it may be there.
+    fn put(&self, out: &mut Vec<u8>) -> Result<(), AllocError>
+        ensures { OnOk result (out.new.items ≡ out.old.items ++ text self.now) };
+}
+
+/// Appends bytes.
+pub(crate) fn put_bytes(out: &mut Vec<u8>, bytes: &[u8]) -> Result<(), AllocError>
+    ensures { OnOk result (out.new.items ≡ out.old.items ++ bytes.now) }
+{
+    out.extend_from_slice(bytes)
+}
+
+/// Appends a decimal number.
+pub(crate) fn put_number(out: &mut Vec<u8>, number: u32) -> Result<(), AllocError>
+    ensures { OnOk result (out.new.items ≡ out.old.items ++ decimal number) }
+{
+    let mut buffer = Buffer::new();
+    out.extend_from_slice(buffer.format(number).as_bytes())
+}
+
+/// Appends the items' texts, with nothing between them.
+pub(crate) fn put_all<T: Spell>(out: &mut Vec<u8>, items: &[T]) -> Result<(), AllocError>
+    ensures { OnOk result (out.new.items ≡ out.old.items ++ flat_map T.text items.now) }
+{
+    for item in items {
+        item.put(out)?;
+    }
+    Ok(())
+}
+
+/// Appends the items' texts, each after a byte.
+pub(crate) fn put_each_after<T: Spell>(
+    out: &mut Vec<u8>,
+    byte: u8,
+    items: &[T],
+) -> Result<(), AllocError>
+    ensures { OnOk result (out.new.items ≡ out.old.items ++ each_after byte (map T.text items.now)) }
+{
+    for item in items {
+        put_bytes(out, &[byte])?;
+        item.put(out)?;
+    }
+    Ok(())
+}
+
+/// Appends the items' texts, with a byte between two.
+pub(crate) fn put_separated<T: Spell>(
+    out: &mut Vec<u8>,
+    byte: u8,
+    items: &[T],
+) -> Result<(), AllocError>
+    ensures { OnOk result (out.new.items ≡ out.old.items ++ separated byte (map T.text items.now)) }
+{
+    let Some((first, rest)) = items.split_first() else {
+        return Ok(());
+    };
+    first.put(out)?;
+    put_each_after(out, byte, rest)
+}

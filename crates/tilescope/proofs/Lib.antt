@@ -1,0 +1,4 @@
+pub mod Corner
+pub mod Forms
+pub mod Answering
+pub mod Bases

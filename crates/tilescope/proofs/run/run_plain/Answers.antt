@@ -1,0 +1,57 @@
+use Rattle.std.proofs.Common.{rules}
+use Rattle.tilescope.proofs.Answering.{answer_status, answer_refused, answer_accepted, answer_searched, answer_solved, answer_unsolved, answer_usage, answer_prefix, memory_status, memory_refused, memory_accepted, memory_searched, fault_status, fault_refused, fault_accepted, fault_searched}
+use Rattle.tilescope.proofs.run.run_plain.Goals as goal
+
+pub returns-in_default-clause-statuses : goal.returns-in_default-clause-statuses
+returns-in_default-clause-statuses g c = memory_status
+
+pub returns-in_default-clause-refused : goal.returns-in_default-clause-refused
+returns-in_default-clause-refused g c = λ _. memory_refused
+
+pub returns-in_default-clause-accepted : goal.returns-in_default-clause-accepted
+returns-in_default-clause-accepted g c = λ _. memory_accepted
+
+pub returns-in_default-clause-searched : goal.returns-in_default-clause-searched
+returns-in_default-clause-searched g c = memory_searched _
+
+pub returns-in-Ok-write_all-clause-statuses : goal.returns-in-Ok-write_all-clause-statuses
+returns-in-Ok-write_all-clause-statuses g c = answer_status _ _ _ _ c.in-Ok.ensures
+
+pub returns-in-Ok-write_all-clause-usage : goal.returns-in-Ok-write_all-clause-usage
+returns-in-Ok-write_all-clause-usage g c = λ e. answer_usage _ _ _ _ _ _ c.in-Ok.ensures e (search rules)
+
+pub returns-in-Ok-write_all-clause-refused : goal.returns-in-Ok-write_all-clause-refused
+returns-in-Ok-write_all-clause-refused g c = answer_refused _ _ _ _ c.in-Ok.ensures
+
+pub returns-in-Ok-write_all-clause-accepted : goal.returns-in-Ok-write_all-clause-accepted
+returns-in-Ok-write_all-clause-accepted g c = answer_accepted _ _ _ _ c.in-Ok.ensures
+
+pub returns-in-Ok-write_all-clause-searched : goal.returns-in-Ok-write_all-clause-searched
+returns-in-Ok-write_all-clause-searched g c = answer_searched _ _ _ _ c.in-Ok.ensures
+
+pub returns-in-Ok-write_all-clause-solved : goal.returns-in-Ok-write_all-clause-solved
+returns-in-Ok-write_all-clause-solved g c = λ a _. answer_solved _ _ _ _ c.in-Ok.ensures a
+
+pub returns-in-Ok-write_all-clause-no_ledger : goal.returns-in-Ok-write_all-clause-no_ledger
+returns-in-Ok-write_all-clause-no_ledger g c = answer_unsolved _ _ _ _ c.in-Ok.ensures
+
+pub returns-clause-statuses : goal.returns-clause-statuses
+returns-clause-statuses g c = fault_status
+
+pub returns-clause-refused : goal.returns-clause-refused
+returns-clause-refused g c = λ _. fault_refused
+
+pub returns-clause-accepted : goal.returns-clause-accepted
+returns-clause-accepted g c = λ _. fault_accepted
+
+pub returns-clause-searched : goal.returns-clause-searched
+returns-clause-searched g c = fault_searched _
+
+pub returns-clause-solved : goal.returns-clause-solved
+returns-clause-solved g c = λ a _. answer_solved _ _ _ _ c.in-Ok.ensures a
+
+pub returns-clause-no_ledger : goal.returns-clause-no_ledger
+returns-clause-no_ledger g c = answer_unsolved _ _ _ _ c.in-Ok.ensures
+
+pub returns-clause-usage_prefix : goal.returns-clause-usage_prefix
+returns-clause-usage_prefix g c = λ r _. answer_prefix _ _ _ _ _ _ c.in-Ok.ensures r (search rules)

@@ -1,0 +1,81 @@
+ghost use Rattle.std.specs.Prelude.{IfOk, map, string_bytes};
+ghost use Rattle.perm_core.specs.Basis.{IsBasis};
+ghost use Rattle.tilescope.specs.Answers.{IsAnswer, IsSearchAnswer, IsUsageAnswer};
+
+use crate::first_ledger::FirstLedger;
+use crate::first_search::{Explored, explore};
+use crate::first_terms::terms;
+use crate::first_text::{put_number, spec_text};
+use crate::usage::usage_line;
+use crate::words::{Request, WordFault, read_words};
+use std::alloc::{AllocError, Global};
+
+/// What a command has to write, the status that it ends with once that is written, and its ledger.
+#[derive(Drop)]
+pub(crate) struct Answer {
+    pub(crate) status: u8,
+    pub(crate) text: Vec<u8>,
+    pub(crate) ledger: Option<FirstLedger>,
+}
+
+/// The line that says that no specification stands among the rules of the ledger.
+fn exhausted_line(alloc: Global, ledger: &FirstLedger) -> Result<Vec<u8>, AllocError> {
+    let mut out = Vec::from_slice(alloc, b"none exhausted ")?;
+    put_number(&mut out, ledger.journal.len() as u128)?;
+    out.push(b' ')?;
+    put_number(&mut out, ledger.classes.len() as u128)?;
+    out.push(b' ')?;
+    put_number(&mut out, ledger.rules.len() as u128)?;
+    out.push(b'\n')?;
+    Ok(out)
+}
+
+/// The answer of a search.
+#[tactic(auto, using(crate::proofs::Bases::naming))]
+fn search(alloc: Global, request: &Request) -> Result<Answer, AllocError>
+    requires { IsBasis request.now.basis }
+    ensures { IfOk result (λ a. IsSearchAnswer a.status a.ledger) }
+{
+    let basis = request.basis.as_slice();
+    let explored = explore(alloc, basis)?;
+    if explored.found {
+        let terms = terms(alloc, &explored.ledger, request.terms)?;
+        let text = spec_text(alloc, basis, &explored, terms.as_slice())?;
+        let Explored { ledger, .. } = explored;
+        return Ok(Answer {
+            status: 0,
+            text,
+            ledger: Some(ledger),
+        });
+    }
+    let Explored { ledger, .. } = explored;
+    Ok(Answer {
+        status: 1,
+        text: exhausted_line(alloc, &ledger)?,
+        ledger: Some(ledger),
+    })
+}
+
+/// The answer to words that are refused, which is none where memory ran out.
+fn refuse(alloc: Global, fault: WordFault) -> Result<Answer, AllocError>
+    ensures { IfOk result (λ a. IsUsageAnswer fault a.status a.text.items a.ledger) }
+{
+    match fault {
+        WordFault::Memory => Err(AllocError),
+        fault => Ok(Answer {
+            status: 2,
+            text: usage_line(alloc, &fault)?,
+            ledger: None,
+        }),
+    }
+}
+
+/// What the words ask for is done, or why they are refused is said.
+pub(crate) fn answer_to(alloc: Global, words: &[String]) -> Result<Answer, AllocError>
+    ensures { IfOk result (λ a. IsAnswer (map string_bytes words.now) a.status a.text.items a.ledger) }
+{
+    match read_words(alloc, words) {
+        Ok(request) => search(alloc, &request),
+        Err(fault) => refuse(alloc, fault),
+    }
+}
