@@ -152,7 +152,7 @@ alone2 =
       of_rulebook = refl;
       none_out = refl;
       in_turn = refl;
-      no_more_rules = refl;
+      all_rules = refl;
       complete = record { once = distinct2; complete = λ n rules c h e. tt };
       stops = inl stands2;
       not_before = not_yet;

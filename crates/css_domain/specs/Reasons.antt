@@ -1,5 +1,5 @@
 -- Why a ledger ends.
-use Rattle.std.specs.Prelude.{◌≡◌, ◌<◌, ◌⊎◌, ℕ, true, List, [], length, slice_get, Some}
+use Rattle.std.specs.Prelude.{◌≡◌, ◌<◌, ◌⊎◌, ℕ, true, List, [], length, sum_by, slice_get, Some}
 use Rattle.std.specs.List.{range_with_len}
 use Rattle.patterns.specs.Parts.{IsIn, NoRepeats}
 use Rattle.css_domain.specs.Standing.{Stands}
@@ -37,7 +37,7 @@ module _ {C R : Type 0} (D : Meaning C R) where
     pub of_rulebook : l.rulebook ≡ rulebook
     pub none_out : l.out ≡ []
     pub in_turn : done l ≡ range_with_len 0 (length l.journal)
-    pub no_more_rules : after_filings D (length l.journal) l ≡ l
+    pub all_rules : length l.rules ≡ sum_by (λ pair. pair.1) l.journal
     pub complete : AreFilingsComplete l
     pub stops : Stops l
     pub not_before : (k : ℕ) → k < length l.journal → Stops (after_filings D k l) → ⊥

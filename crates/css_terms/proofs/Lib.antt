@@ -6,3 +6,5 @@ pub mod Evaluation
 pub mod Passes
 pub mod Cuts
 mod TermRows
+pub mod SpecRows
+pub mod ExactTerms

@@ -1,3 +1,4 @@
 pub mod Terms
 pub mod Series
 pub mod Rows
+pub mod SpecRows

@@ -19,7 +19,7 @@ pub record IsGoodRow (rows : List Row) (row : Row) : Type 0 where
 abbrev pub AreGoodRows : List Row → Type 0
 AreGoodRows rows = (i : ℕ) (row : Row) → slice_get rows i ≡ Some row → IsGoodRow rows row
 
--- the numbers combine over the rows, and are 0 at length 0 where a child is positive
+-- the numbers combine over the rows, and those of a positive child are 0 at length 0
 pub record AreRowCounts (rows : List Row) (count : ℕ → ℕ → ℕ) : Type 0 where
   pub combined : (i n : ℕ) (row : Row) → slice_get rows i ≡ Some row → count i n ≡ combine row.shape (map count (places row.children)) n
   pub none_of_length_0 : (i slot place : ℕ) (row : Row) → slice_get rows i ≡ Some row → slice_get row.children slot ≡ Some (place, true) → count place 0 ≡ 0

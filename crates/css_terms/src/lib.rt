@@ -3,6 +3,7 @@
 #![tactic(auto)]
 
 mod evaluate;
+mod laws;
 mod order;
 mod rows;
 mod series;
@@ -12,5 +13,6 @@ mod tests;
 mod value;
 
 pub use evaluate::terms_of_rows;
+pub use laws::{exact_terms_are_avoiders, specs_have_rows};
 pub use rows::Row;
 pub use term::Term;

@@ -7,5 +7,7 @@ pub mod OneCell
 pub mod Joined
 pub mod ListTests
 pub mod NoMembers
-pub mod RuleCounts
 pub mod Applying
+pub mod Inferred
+pub mod Inferring
+pub mod Checked

@@ -7,7 +7,7 @@ use Rattle.tile_rules.specs.declared.fault.RawFault.{RawFault}
 use Rattle.tile_rules.specs.declared.fault.RawFault.TheVariants as raw
 use Rattle.tile_rules.specs.Conditions.{applies}
 
--- inferrals, placements, cuts and factors are not built yet
+-- placements, cuts and factors are not built yet
 abbrev pub is_built : Kind → Bool
 is_built kind.Unit = true
 is_built kind.Point = true
@@ -17,7 +17,7 @@ is_built (kind.Place qs d) = false
 is_built (kind.RowCut y set) = false
 is_built (kind.ColumnCut x set) = false
 is_built (kind.Factor sets) = false
-is_built (kind.Infer patterns) = false
+is_built (kind.Infer patterns) = true
 
 -- whether a kind applies, where one that isn't built never does
 abbrev pub applies_now : Tiles → Kind → Bool

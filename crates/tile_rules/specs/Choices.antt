@@ -46,7 +46,7 @@ closure link cells c = grown_times (length cells) link cells (c ∷ [])
 
 -- ---- The finest factoring
 
--- whether two cells share a set in every factoring at once: they share a line, or the points of one bundle
+-- whether two cells are tied directly: they share a line, or the points of one bundle
 abbrev pub is_linked : Tiles → Cell → Cell → Bool
 is_linked t c d = shares_line c d || list_any (λ bundle. list_any (touches (cell_eq c)) bundle && list_any (touches (cell_eq d)) bundle) (bundles t)
 

@@ -3,20 +3,20 @@ use Rattle.std.specs.Prelude.{◌≡◌, true, List, length, map, zip, Some, All
 use Rattle.tiling_core.specs.Tiles.{Tiles, IsTiling}
 use Rattle.steps.specs.declared.step.Step.{Step}
 use Rattle.steps.specs.Traces.{replay}
-use Rattle.tile_rules.specs.declared.rule.TileRule.{TileRule}
+use Rattle.tile_rules.specs.Rules.{TilingRule}
 use Rattle.tile_rules.specs.Kinds.{IsKept}
 use Rattle.tile_rules.specs.Children.{raw_children}
-use Rattle.tile_rules.specs.Conditions.{applies}
+use Rattle.tile_rules.specs.Built.{applies_now}
 
 -- what the types of the parts keep, and the raw children are tilings that can be kept
-pub record IsMadeOfTilings (r : TileRule) : Type 0 where
+pub record IsMadeOfTilings (r : TilingRule) : Type 0 where
   pub parent : IsTiling r.parent
   pub kind : IsKept r.kind
   pub raw : All (λ t. IsTiling t) (raw_children r.parent r.kind)
 
 -- the kind applies, and each child is the replay of its trace on its raw child
-pub record Follows (r : TileRule) : Type 0 where
+pub record Follows (r : TilingRule) : Type 0 where
   pub made : IsMadeOfTilings r
-  pub condition : applies r.parent r.kind ≡ true
+  pub condition : applies_now r.parent r.kind ≡ true
   pub as_many : length r.traces ≡ length (raw_children r.parent r.kind)
   pub replayed : map (λ (p : Tiles × List Step). replay p.0 p.1) (zip (raw_children r.parent r.kind) r.traces) ≡ map (λ t. Some t) r.children

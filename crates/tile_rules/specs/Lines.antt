@@ -24,6 +24,7 @@ lies_in test g = list_all test (cells_of g)
 abbrev pub in_grid : Tiles → List Point → Bool
 in_grid t g = fits_grid t.width t.height g
 
+-- for a cell of the grid, whether it is active
 abbrev pub is_active : Tiles → Cell → Bool
 is_active t c = not (forbids t (point_at c))
 

@@ -3,12 +3,12 @@ use Rattle.tiling_core.specs.Tiles.{Tiles, count}
 use Rattle.tiling_core.specs.Measures.{is_positive}
 use Rattle.tiling_core.specs.Same.{tiles_eq}
 use Rattle.css_domain.specs.Meanings.{Meaning}
-use Rattle.tile_rules.specs.declared.rule.TileRule.{TileRule}
+use Rattle.tile_rules.specs.Rules.{TilingRule}
 use Rattle.tile_rules.specs.Kinds.{shape_of}
 use Rattle.tile_rules.specs.Follows.{Follows}
 use Rattle.tile_rules.specs.Complete.{IsCompleteFor}
 
-pub tile_meaning : Meaning Tiles TileRule
+abbrev pub tile_meaning : Meaning Tiles TilingRule
 tile_meaning = record {
   same = tiles_eq;
   positive = is_positive;

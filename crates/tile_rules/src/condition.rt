@@ -7,6 +7,7 @@ ghost use Rattle.tile_rules.specs.Lines.{in_grid};
 ghost use Rattle.tile_rules.specs.Conditions.{has_no_member};
 ghost use Rattle.tile_rules.specs.Built.{applies_now};
 
+use crate::inferral::can_be_inferred;
 use crate::kind::Kind;
 use crate::root::{point_tiling, unit_tiling};
 use emptiness::{EmptyFault, is_empty, members_within_weight};
@@ -31,7 +32,7 @@ fn is_point(alloc: Global, tiling: &Tiling) -> Result<bool, AllocError>
 }
 
 /// Whether the weight is at most 6 and there is no member.
-fn is_void(alloc: Global, tiling: &Tiling) -> Result<bool, AllocError>
+pub(crate) fn is_void(alloc: Global, tiling: &Tiling) -> Result<bool, AllocError>
     ensures { IfOk result (λ void. void ≡ (nat_le (weight tiling.now) 6 && has_no_member tiling.now)) }
 {
     members_within_weight();
@@ -43,7 +44,7 @@ fn is_void(alloc: Global, tiling: &Tiling) -> Result<bool, AllocError>
 }
 
 /// Whether the cells of a pattern lie in the grid.
-fn is_in_grid(tiling: &Tiling, pattern: &Gridded) -> bool
+pub(crate) fn is_in_grid(tiling: &Tiling, pattern: &Gridded) -> bool
     ensures { result ≡ in_grid tiling.now pattern.now }
 {
     let width = tiling.width();
@@ -59,7 +60,7 @@ fn can_be_inserted(tiling: &Tiling, pattern: &Gridded) -> bool
     pattern.len() != 0 && is_in_grid(tiling, pattern)
 }
 
-/// Whether the kind applies. Inferrals, placements, cuts and factors never do yet.
+/// Whether the kind applies. Placements, cuts and factors never do yet.
 #[tactic(auto, unfolding(crate::specs::Conditions::applies))]
 pub(crate) fn applies(alloc: Global, tiling: &Tiling, kind: &Kind) -> Result<bool, AllocError>
     ensures { IfOk result (λ it_does. it_does ≡ applies_now tiling.now kind.now) }
@@ -73,6 +74,6 @@ pub(crate) fn applies(alloc: Global, tiling: &Tiling, kind: &Kind) -> Result<boo
         Kind::RowCut(_, _) => Ok(false),
         Kind::ColumnCut(_, _) => Ok(false),
         Kind::Factor(_) => Ok(false),
-        Kind::Infer(_) => Ok(false),
+        Kind::Infer(patterns) => can_be_inferred(alloc, tiling, patterns.as_slice()),
     }
 }

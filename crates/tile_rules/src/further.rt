@@ -1,6 +1,7 @@
-ghost use Rattle.std.specs.Prelude.{◌≡◌, IfOk, All};
+ghost use Rattle.std.specs.Prelude.{◌≡◌, true, [], ◌∷◌, IfOk, All};
 ghost use Rattle.tiling_core.specs.Tiles.{IsInGrid};
 ghost use Rattle.tiling_core.specs.Patterns.{also};
+ghost use Rattle.tile_rules.specs.Lines.{in_grid};
 
 use gridded::Gridded;
 use sequences::{Copied, Sequence};
@@ -26,4 +27,21 @@ pub fn also(
     let mut kept = <Sequence<Gridded> as Copied>::copy_all(tiling.requirements(), alloc)?;
     each.append(&mut kept)?;
     Tiling::in_grid(tiling.width(), tiling.height(), all, each)
+}
+
+/// The tiling with a further list of one pattern.
+#[tactic(auto, using(crate::proofs::Joined::single))]
+pub(crate) fn requiring(
+    alloc: Global,
+    tiling: &Tiling,
+    pattern: Gridded,
+) -> Result<Tiling, AllocError>
+    requires { in_grid tiling.now pattern ≡ true }
+    ensures { IfOk result (λ t. t ≡ also tiling.now [] ((pattern ∷ []) ∷ [])) }
+{
+    let mut patterns = Vec::new(alloc);
+    patterns.push(pattern)?;
+    let mut lists = Vec::new(alloc);
+    lists.push(Sequence::of(patterns))?;
+    also(alloc, tiling, &[], lists.as_slice())
 }

@@ -1,4 +1,5 @@
 ghost use Rattle.std.specs.Prelude.{◌≡◌, true, [], ◌∷◌, IfOk, IfErr, OnOk};
+ghost use Rattle.tiling_core.specs.Tiles.{IsInGrid};
 ghost use Rattle.tiling_core.specs.Patterns.{also};
 ghost use Rattle.tile_rules.specs.Built.{applies_now, IsRawRefused};
 ghost use Rattle.tile_rules.specs.Children.{raw_children};
@@ -6,10 +7,9 @@ ghost use Rattle.tile_rules.specs.Lines.{in_grid};
 
 use crate::condition::applies;
 use crate::fault::RawFault;
-use crate::further::also;
+use crate::further::{also, requiring};
 use crate::kind::Kind;
 use gridded::Gridded;
-use sequences::Sequence;
 use std::alloc::{AllocError, Global};
 use tiling_core::Tiling;
 
@@ -19,31 +19,39 @@ fn inserted(alloc: Global, tiling: &Tiling, pattern: Gridded) -> Result<Vec<Tili
     requires { in_grid tiling.now pattern ≡ true }
     ensures { IfOk result (λ children. children.items ≡ also tiling.now (pattern ∷ []) [] ∷ also tiling.now [] ((pattern ∷ []) ∷ []) ∷ []) }
 {
-    let mut patterns = Vec::new(alloc);
-    patterns.push(pattern)?;
-    let mut lists = Vec::new(alloc);
-    lists.push(Sequence::of(patterns))?;
     let mut children = Vec::new(alloc);
     children.push(also(alloc, tiling, &[pattern], &[])?)?;
-    children.push(also(alloc, tiling, &[], lists.as_slice())?)?;
+    children.push(requiring(alloc, tiling, pattern)?)?;
+    Ok(children)
+}
+
+/// The tiling without the patterns.
+#[tactic(auto, using(crate::proofs::Joined::single))]
+fn inferred(alloc: Global, tiling: &Tiling, patterns: &[Gridded]) -> Result<Vec<Tiling>, AllocError>
+    requires { IsInGrid tiling.now.width tiling.now.height patterns.now }
+    ensures { IfOk result (λ children. children.items ≡ also tiling.now patterns.now [] ∷ []) }
+{
+    let mut children = Vec::new(alloc);
+    children.push(also(alloc, tiling, patterns, &[])?)?;
     Ok(children)
 }
 
 /// The raw children by a kind that applies.
-#[tactic(auto, using(crate::proofs::Applying::inserting), unfolding(crate::specs::Children::raw_children, crate::specs::Conditions::applies))]
+#[tactic(auto, using(crate::proofs::Applying::applying), unfolding(crate::specs::Children::raw_children, crate::specs::Conditions::applies))]
 fn children_of(alloc: Global, tiling: &Tiling, kind: &Kind) -> Result<Vec<Tiling>, AllocError>
     requires { applies_now tiling.now kind.now ≡ true }
     ensures { IfOk result (λ children. children.items ≡ raw_children tiling.now kind.now) }
 {
     match kind {
         Kind::Insert(pattern) => inserted(alloc, tiling, *pattern),
+        Kind::Infer(patterns) => inferred(alloc, tiling, patterns.as_slice()),
         _ => Ok(Vec::new(alloc)),
     }
 }
 
 /// The children of a tiling by a kind of rule, before they are reduced (docs/RULES.md, "Kinds of rules"). Refused
-/// is a kind whose condition fails, as NotApplicable, and nothing else but want of memory. Inferrals, placements,
-/// cuts and factors never apply yet.
+/// is a kind whose condition fails, as NotApplicable, and nothing else but want of memory. Placements, cuts and factors
+/// never apply yet.
 pub fn raw_children(alloc: Global, tiling: &Tiling, kind: &Kind) -> Result<Vec<Tiling>, RawFault>
     ensures made { IfOk result (λ children. children.items ≡ raw_children tiling.now kind.now) }
     ensures applicable { OnOk result (applies_now tiling.now kind.now ≡ true) }

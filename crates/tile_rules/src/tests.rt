@@ -1,14 +1,20 @@
+ghost use Rattle.std.specs.Prelude.{◌≡◌, ◌<◌, IfOk, All, length};
+
 use crate::{
-    Direction, Kind, Pointed, RawFault, TileRule, also, raw_children, root_raw, rules_count,
+    Direction, Kind, Pointed, RawFault, TileRule, also, check_rule, raw_children, root_raw,
+    rules_count,
 };
 use gridded::{Cell, Gridded, GriddedFault};
 use perm_core::Perm;
 use sequences::{Copied, Sequence};
 use std::alloc::{AllocError, Global};
 use std::test::Fail;
+use steps::Step;
 use tiling_core::{Tiling, TilingFault};
 
 const ORIGIN: Cell = Cell { x: 0, y: 0 };
+
+const FAR: Cell = Cell { x: 1, y: 1 };
 
 /// The pattern 0:00.
 fn point(alloc: Global) -> Result<Gridded, GriddedFault> {
@@ -52,21 +58,64 @@ fn the_root_of_021(rt: HostRuntime) -> Result<(), Fail> {
     Ok(())
 }
 
+/// The 1x1 tiling without a point.
+fn without_points(alloc: Global) -> Result<Tiling, Fail> {
+    let obstructions = vec![in alloc;
+        point(alloc)?,
+        rising(alloc, ORIGIN, ORIGIN)?,
+        falling(alloc, ORIGIN, ORIGIN)?,
+    ]?;
+    Ok(Tiling::of(alloc, 1, 1, obstructions, Vec::new(alloc))?)
+}
+
 #[test]
 fn a_point_is_inserted_into_the_root(rt: HostRuntime) -> Result<(), Fail> {
     let alloc = rt.alloc();
-    let root = without_021(alloc)?;
+    let root = without_pairs(alloc, Vec::new(alloc))?;
+    let with = without_pairs(alloc, one_list(alloc, point(alloc)?)?)?;
+    let expected = vec![in alloc; without_points(alloc)?, with]?;
     let children = raw_children(alloc, &root, &Kind::Insert(point(alloc)?))?;
-    assert_eq!(rt; children.len(), 2);
+    assert_eq!(rt; children, expected);
     Ok(())
 }
 
 #[test]
 fn the_root_is_not_the_unit_tiling(rt: HostRuntime) -> Result<(), Fail> {
     let alloc = rt.alloc();
-    let root = without_021(alloc)?;
+    let root = without_pairs(alloc, Vec::new(alloc))?;
     assert_eq!(rt;
         raw_children(alloc, &root, &Kind::Unit),
+        Err(RawFault::NotApplicable)
+    );
+    Ok(())
+}
+
+#[test]
+fn the_void_tiling_has_no_member(rt: HostRuntime) -> Result<(), Fail> {
+    let alloc = rt.alloc();
+    let nothing = vec![in alloc; Gridded::of(alloc, &[], &[])?]?;
+    let void = Tiling::of(alloc, 0, 0, nothing, Vec::new(alloc))?;
+    assert_eq!(rt; raw_children(alloc, &void, &Kind::Void)?.len(), 0);
+    Ok(())
+}
+
+#[test]
+fn the_root_has_a_member(rt: HostRuntime) -> Result<(), Fail> {
+    let alloc = rt.alloc();
+    let root = without_pairs(alloc, Vec::new(alloc))?;
+    assert_eq!(rt;
+        raw_children(alloc, &root, &Kind::Void),
+        Err(RawFault::NotApplicable)
+    );
+    Ok(())
+}
+
+#[test]
+fn a_placement_has_no_children(rt: HostRuntime) -> Result<(), Fail> {
+    let alloc = rt.alloc();
+    let kind = placing(alloc, point(alloc)?)?;
+    assert_eq!(rt;
+        raw_children(alloc, &without_021(alloc)?, &kind),
         Err(RawFault::NotApplicable)
     );
     Ok(())
@@ -83,12 +132,8 @@ fn a_kind_is_copied(rt: HostRuntime) -> Result<(), Fail> {
 #[test]
 fn a_rule_is_copied(rt: HostRuntime) -> Result<(), Fail> {
     let alloc = rt.alloc();
-    let rule = TileRule {
-        kind: Kind::Unit,
-        parent: without_021(alloc)?,
-        children: Sequence::of(Vec::new(alloc)),
-        traces: Sequence::of(Vec::new(alloc)),
-    };
+    let trace = vec![in alloc; Step::Min, FIRST_COLUMN, FIRST_ROW]?;
+    let rule = insertion(alloc, trace)?;
     assert_eq!(rt; rule.copy(alloc)?, rule);
     Ok(())
 }
@@ -99,5 +144,120 @@ fn nothing_further_is_the_same(rt: HostRuntime) -> Result<(), Fail> {
     let root = without_021(alloc)?;
     let same = also(alloc, &root, &[], &[])?;
     assert_eq!(rt; same, root);
+    Ok(())
+}
+
+/// The step of the first column, and that of the first row.
+const FIRST_COLUMN: Step = Step::Column(0);
+
+const FIRST_ROW: Step = Step::Row(0);
+
+/// Two points in these cells, the right one higher.
+fn rising(alloc: Global, left: Cell, right: Cell) -> Result<Gridded, GriddedFault> {
+    Gridded::of(alloc, &[0, 1], &[left, right])
+}
+
+/// Two points in these cells, the right one lower.
+fn falling(alloc: Global, left: Cell, right: Cell) -> Result<Gridded, GriddedFault> {
+    Gridded::of(alloc, &[1, 0], &[left, right])
+}
+
+/// One requirement list, of one pattern.
+fn one_list(alloc: Global, pattern: Gridded) -> Result<Vec<Sequence<Gridded>>, AllocError>
+    ensures few { IfOk result (λ lists. length lists.items ≡ 1) }
+    ensures each { IfOk result (λ lists. All (λ patterns. length patterns < 268435456) lists.items) }
+{
+    let mut lists = Vec::new(alloc);
+    lists.push(Sequence::of(vec![in alloc; pattern]?))?;
+    Ok(lists)
+}
+
+/// The 1x1 tiling without two points, and with these requirement lists.
+fn without_pairs(alloc: Global, lists: Vec<Sequence<Gridded>>) -> Result<Tiling, Fail>
+    requires few { length lists.items < 268435456 }
+    requires each { All (λ patterns. length patterns < 268435456) lists.items }
+{
+    let obstructions = vec![in alloc;
+        rising(alloc, ORIGIN, ORIGIN)?,
+        falling(alloc, ORIGIN, ORIGIN)?,
+    ]?;
+    Ok(Tiling::of(alloc, 1, 1, obstructions, lists)?)
+}
+
+/// The rule that inserts a point into the 1x1 tiling without two points, by this trace of the first child.
+fn insertion(alloc: Global, trace: Vec<Step>) -> Result<TileRule, Fail>
+    requires { length trace.items < 4 }
+{
+    let root = without_pairs(alloc, Vec::new(alloc))?;
+    let unit = Tiling::of(alloc, 0, 0, Vec::new(alloc), Vec::new(alloc))?;
+    let one = without_pairs(alloc, one_list(alloc, point(alloc)?)?)?;
+    let children = vec![in alloc; unit, one]?;
+    let traces = vec![in alloc; Sequence::of(trace), Sequence::of(Vec::new(alloc))]?;
+    Ok(TileRule::of(
+        Kind::Insert(point(alloc)?),
+        root,
+        Sequence::of(children),
+        Sequence::of(traces),
+    ))
+}
+
+#[test]
+fn an_insertion_follows(rt: HostRuntime) -> Result<(), Fail> {
+    let alloc = rt.alloc();
+    let trace = vec![in alloc; Step::Min, FIRST_COLUMN, FIRST_ROW]?;
+    let rule = insertion(alloc, trace)?;
+    assert_eq!(rt; check_rule(alloc, &rule), Ok(true));
+    Ok(())
+}
+
+#[test]
+fn an_insertion_without_a_trace(rt: HostRuntime) -> Result<(), Fail> {
+    let alloc = rt.alloc();
+    let rule = insertion(alloc, Vec::new(alloc))?;
+    assert_eq!(rt; check_rule(alloc, &rule), Ok(false));
+    Ok(())
+}
+
+#[test]
+fn a_placement_is_not_built(rt: HostRuntime) -> Result<(), Fail> {
+    let alloc = rt.alloc();
+    let rule = TileRule::of(
+        placing(alloc, point(alloc)?)?,
+        without_021(alloc)?,
+        Sequence::of(Vec::new(alloc)),
+        Sequence::of(Vec::new(alloc)),
+    );
+    assert_eq!(rt; check_rule(alloc, &rule), Ok(false));
+    Ok(())
+}
+
+/// The 2x2 tiling of points in the lower left cell, which there are, or in the upper right one, where there is no
+/// point right of one in the lower left.
+fn one_corner(alloc: Global) -> Result<Tiling, Fail> {
+    let above = Gridded::of(alloc, &[0], &[Cell { x: 0, y: 1 }])?;
+    let beside = Gridded::of(alloc, &[0], &[Cell { x: 1, y: 0 }])?;
+    let obstructions = vec![in alloc; above, beside, rising(alloc, ORIGIN, FAR)?]?;
+    Ok(Tiling::of(alloc, 2, 2, obstructions, one_list(alloc, point(alloc)?)?)?)
+}
+
+#[test]
+fn the_far_corner_is_inferred(rt: HostRuntime) -> Result<(), Fail> {
+    let alloc = rt.alloc();
+    let far = Gridded::of(alloc, &[0], &[FAR])?;
+    let patterns = vec![in alloc; far, rising(alloc, FAR, FAR)?, falling(alloc, FAR, FAR)?]?;
+    let kind = Kind::Infer(Sequence::of(patterns));
+    let children = raw_children(alloc, &one_corner(alloc)?, &kind)?;
+    assert_eq!(rt; children.len(), 1);
+    Ok(())
+}
+
+#[test]
+fn a_point_of_all_members_is_not_inferred(rt: HostRuntime) -> Result<(), Fail> {
+    let alloc = rt.alloc();
+    let kind = Kind::Infer(Sequence::of(vec![in alloc; point(alloc)?]?));
+    assert_eq!(rt;
+        raw_children(alloc, &one_corner(alloc)?, &kind),
+        Err(RawFault::NotApplicable)
+    );
     Ok(())
 }

@@ -1,11 +1,5 @@
-use Rattle.tile_rules.proofs.RuleCounts.{unit_counts, point_counts, void_counts, insert_counts, infer_counts}
+use Rattle.tile_rules.specs.Laws.RuleCounts.{rules_count}
 use Rattle.tile_rules.proofs.law.rules_count.Goals as goal
 
 pub returns : goal.returns
-returns c = record {
-  unit = unit_counts c.single_tilings.ensures.unit;
-  point = point_counts c.single_tilings.ensures.point;
-  void = void_counts c.members_within_weight.ensures;
-  insert = insert_counts c.insertion_adds_up.ensures c.replays_keep_members.ensures.members;
-  infer = infer_counts c.insertion_adds_up.ensures c.members_within_weight.ensures c.replays_keep_members.ensures.members;
-}
+returns c = rules_count c.single_tilings.ensures.unit c.single_tilings.ensures.point c.members_within_weight.ensures c.counts_add_up.ensures.sum c.replays_keep_members.ensures.members

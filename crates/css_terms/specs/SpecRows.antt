@@ -1,0 +1,29 @@
+-- The rows of a specification's entries.
+use Rattle.std.specs.Prelude.{◌≡◌, ℕ, List, map, zip, slice_get, Some}
+use Rattle.patterns.specs.Occurs.{avoiders}
+use Rattle.css_domain.specs.Meanings.{Meaning}
+use Rattle.css_domain.specs.Entries.{Entry, ValidSpec, class_counts}
+use Rattle.css_terms.specs.declared.rows.Row.{Row}
+use Rattle.css_terms.specs.declared.term.Term.TheVariants.{Exact}
+use Rattle.css_terms.specs.Rows.{AreGoodRows, AreRowCounts}
+use Rattle.css_terms.specs.Terms.{terms_of}
+
+module _ {C R : Type 0} (D : Meaning C R) where
+  -- the shape of its rule, the places of the children with their positivity, and its rank
+  abbrev pub row_of : Entry C R → Row
+  row_of e = record { shape = D.shape e.rule; children = zip e.children (map D.positive (D.children e.rule)); rank = e.rank }
+
+  abbrev pub rows_of : List (Entry C R) → List Row
+  rows_of entries = map row_of entries
+
+  -- the rows of a valid specification can be evaluated, and the counts of its classes combine over them
+  pub record AreSpecRows (entries : List (Entry C R)) : Type 0 where
+    pub good : AreGoodRows (rows_of entries)
+    pub counts : AreRowCounts (rows_of entries) (class_counts D entries)
+
+  abbrev pub SpecsHaveRows : Type 0
+  SpecsHaveRows = (entries : List (Entry C R)) (c : C) → ValidSpec D entries c → AreSpecRows entries
+
+-- an exact term is the number of avoiders of its length
+abbrev pub ExactTermsAreAvoiders : Type 0
+ExactTermsAreAvoiders = (basis : List (List ℕ)) (last n x : ℕ) → slice_get (terms_of basis last) n ≡ Some (Exact x) → x ≡ avoiders basis n
