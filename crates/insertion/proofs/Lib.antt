@@ -1,0 +1,2 @@
+pub mod RequiredCells
+pub mod Listed

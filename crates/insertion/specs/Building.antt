@@ -1,0 +1,17 @@
+-- Which kinds are insertions, and when one is refused.
+use Rattle.std.specs.Prelude.{◌≡◌, Bool, true, false, ◌&&◌}
+use Rattle.tiling_core.specs.Tiles.{Tiles}
+use Rattle.tile_rules.specs.declared.kind.Kind.{Kind}
+use Rattle.tile_rules.specs.declared.kind.Kind.TheVariants as kind
+use Rattle.tile_rules.specs.declared.fault.RawFault.{RawFault}
+use Rattle.tile_rules.specs.declared.fault.RawFault.TheVariants as raw
+use Rattle.tile_rules.specs.Built.{applies_now}
+
+abbrev pub is_insertion : Kind → Bool
+is_insertion (kind.Insert r) = true
+is_insertion _ = false
+
+-- another kind, or an insertion whose condition fails; want of memory has no cause here
+abbrev pub IsRefused : Tiles → Kind → RawFault → Type 0
+IsRefused t k raw.NotApplicable = (is_insertion k && applies_now t k) ≡ false
+IsRefused t k raw.Memory = Unit {0}

@@ -1,0 +1,11 @@
+//! Insertions of points: where they are tried, and their children (docs/RULES.md, "Kinds of rules").
+#![tactic(auto)]
+
+mod children;
+mod listing;
+mod required;
+#[cfg(test)]
+mod tests;
+
+pub use children::build;
+pub use listing::arguments;

@@ -1,0 +1,4 @@
+pub mod Repeats
+pub mod KindLists
+pub mod Tried
+pub mod RuleSteps

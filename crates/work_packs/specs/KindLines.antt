@@ -1,0 +1,18 @@
+-- The kinds of a class, line by line.
+use Rattle.std.specs.Prelude.{not, ◌&&◌, nat_le, List, [], ◌∷◌, filter, length}
+use Rattle.tiling_core.specs.Tiles.{Tiles}
+use Rattle.tiling_core.specs.Measures.{weight}
+use Rattle.tiling_core.specs.Patterns.{active_cells}
+use Rattle.steps.specs.Steps.{is_nil}
+use Rattle.tile_rules.specs.declared.kind.Kind.{Kind}
+use Rattle.tile_rules.specs.declared.kind.Kind.TheVariants as kind
+use Rattle.tile_rules.specs.Conditions.{applies}
+use Rattle.tile_rules.specs.Choices.{inferred, when, first_that_is}
+
+-- the kinds without children: that of the unit or the point tiling, and else that of a tiling without members
+abbrev pub closing_kinds : Tiles → List Kind
+closing_kinds t = first_that_is (filter (applies t) (kind.Unit ∷ kind.Point ∷ []) ∷ filter (applies t) (kind.Void ∷ []) ∷ [])
+
+-- the inferral of a light tiling with few active cells, where there is something to infer
+abbrev pub inferrals : Tiles → List Kind
+inferrals t = when (nat_le (weight t) 4 && nat_le (length (active_cells t)) 16) (when (not (is_nil (inferred t))) (kind.Infer (inferred t) ∷ []))

@@ -1,0 +1,4 @@
+pub mod PackTexts
+pub mod BuiltLetters
+pub mod KindLines
+pub mod RulesMade

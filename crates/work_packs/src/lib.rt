@@ -1,0 +1,12 @@
+//! Packs of letters, and the complete filing of a tiling for a pack (docs/RULES.md, "Kinds of rules").
+#![tactic(auto)]
+
+mod choice;
+mod expansion;
+mod filed;
+mod pack;
+#[cfg(test)]
+mod tests;
+
+pub use expansion::expand;
+pub use pack::Packs;
