@@ -1,0 +1,4 @@
+pub mod SetCells
+pub mod ChildLines
+pub mod KindRows
+mod TextRows

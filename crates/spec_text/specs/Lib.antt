@@ -2,3 +2,8 @@ pub mod Lines
 pub mod Patterns
 pub mod Classes
 pub mod Traces
+pub mod Kinds
+pub mod Entries
+pub mod Terms
+pub mod Texts
+pub mod EntryLaws

@@ -1,5 +1,5 @@
 -- Lines of a text: items with one blank before each, and lists of items with a byte between two.
-use Rattle.std.specs.Prelude.{ℕ, List, [], ◌∷◌, ◌++◌, flat_map, codes}
+use Rattle.std.specs.Prelude.{ℕ, suc, List, [], ◌∷◌, ◌++◌, flat_map, codes}
 
 abbrev pub Text : Type 0
 Text = List ℕ
@@ -21,3 +21,8 @@ line word items = word ++ each_after 32 items ++ codes "\n"
 abbrev pub or_dash : List Text → List Text
 or_dash [] = codes "-" ∷ []
 or_dash (item ∷ items) = item ∷ items
+
+-- the texts of items that are numbered from a number on
+abbrev pub numbered : {X : Type 0} → (ℕ → X → Text) → ℕ → List X → Text
+numbered text number [] = []
+numbered text number (x ∷ items) = text number x ++ numbered text (suc number) items

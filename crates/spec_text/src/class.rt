@@ -34,7 +34,7 @@ fn put_grid(out: &mut Vec<u8>, class: &Tiling) -> Result<(), AllocError>
 }
 
 /// Appends the three lines of a class.
-fn put_class_lines(out: &mut Vec<u8>, class: &Tiling) -> Result<(), AllocError>
+pub(crate) fn put_class_lines(out: &mut Vec<u8>, class: &Tiling) -> Result<(), AllocError>
     ensures { OnOk result (out.new.items ≡ out.old.items ++ class_text class.now) }
 {
     put_grid(out, class)?;

@@ -2,9 +2,18 @@
 #![tactic(auto)]
 
 mod class;
+mod entry;
+mod kinds;
 mod points;
+mod sets;
 mod spell;
+#[cfg(test)]
+mod tests;
 mod traces;
+mod whole;
 
 pub use class::put_class;
+pub use entry::{put_entry, put_rule};
+pub use spell::put_number;
 pub use traces::{put_child, put_head};
+pub use whole::{put_end, put_start, put_terms};

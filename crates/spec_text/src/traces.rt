@@ -42,7 +42,11 @@ fn put_basis(out: &mut Vec<u8>, basis: &[Perm]) -> Result<(), AllocError>
 }
 
 /// Appends both lines of the head.
-fn put_head_lines(out: &mut Vec<u8>, basis: &[Perm], root_trace: &[Step]) -> Result<(), AllocError>
+pub(crate) fn put_head_lines(
+    out: &mut Vec<u8>,
+    basis: &[Perm],
+    root_trace: &[Step],
+) -> Result<(), AllocError>
     ensures { OnOk result (out.new.items ≡ out.old.items ++ head_text basis.now root_trace.now) }
 {
     put_basis(out, basis)?;
@@ -71,7 +75,11 @@ fn put_trace(out: &mut Vec<u8>, trace: &[Step]) -> Result<(), AllocError>
 }
 
 /// Appends the line of a child.
-fn put_child_line(out: &mut Vec<u8>, child: u32, trace: &[Step]) -> Result<(), AllocError>
+pub(crate) fn put_child_line(
+    out: &mut Vec<u8>,
+    child: u32,
+    trace: &[Step],
+) -> Result<(), AllocError>
     ensures { OnOk result (out.new.items ≡ out.old.items ++ child_line child trace.now) }
 {
     put_bytes(out, b"to ")?;
