@@ -50,7 +50,7 @@ pub record HasBadTerms (words : List Text) : Type 0 where
   pub form : IsFirstForm words
   pub bad : (n : ℕ) → n ≤ 200 → form.terms ≡ decimal n → ⊥
 
--- when each refusal comes
+-- when each refusal comes; want of memory has no cause here
 abbrev pub IsRefused : List Text → WordFault → Type 0
 IsRefused words Unbuilt = IsFirstForm words → ⊥
 IsRefused words (Opt Terms) = HasBadTerms words

@@ -1,11 +1,10 @@
-ghost use Rattle.std.specs.Prelude.{IfOk, map, string_bytes};
+ghost use Rattle.std.specs.Prelude.{◌≡◌, ◌≤◌, IfOk, map, string_bytes};
 ghost use Rattle.perm_core.specs.Basis.{IsBasis};
 ghost use Rattle.tilescope.specs.Answers.{IsAnswer, IsSearchAnswer, IsUsageAnswer};
 
 use crate::first_ledger::FirstLedger;
-use crate::first_search::{Explored, explore};
-use crate::first_terms::terms;
-use crate::first_text::{put_number, spec_text};
+use crate::first_search::{Explored, Outcome, explore};
+use crate::first_text::{exhausted_line, specification};
 use crate::usage::usage_line;
 use crate::words::{Request, WordFault, read_words};
 use std::alloc::{AllocError, Global};
@@ -18,40 +17,32 @@ pub(crate) struct Answer {
     pub(crate) ledger: Option<FirstLedger>,
 }
 
-/// The line that says that no specification stands among the rules of the ledger.
-fn exhausted_line(alloc: Global, ledger: &FirstLedger) -> Result<Vec<u8>, AllocError> {
-    let mut out = Vec::from_slice(alloc, b"none exhausted ")?;
-    put_number(&mut out, ledger.journal.len() as u128)?;
-    out.push(b' ')?;
-    put_number(&mut out, ledger.classes.len() as u128)?;
-    out.push(b' ')?;
-    put_number(&mut out, ledger.rules.len() as u128)?;
-    out.push(b'\n')?;
-    Ok(out)
-}
-
 /// The answer of a search.
 #[tactic(auto, using(crate::proofs::Bases::naming))]
 fn search(alloc: Global, request: &Request) -> Result<Answer, AllocError>
-    requires { IsBasis request.now.basis }
-    ensures { IfOk result (λ a. IsSearchAnswer a.status a.ledger) }
+    requires basis { IsBasis request.now.basis }
+    requires short { request.now.terms ≤ 200 }
+    requires budget { request.now.budget ≡ 500 }
+    ensures { IfOk result (λ a. IsSearchAnswer request.now a.status a.text.items a.ledger) }
 {
     let basis = request.basis.as_slice();
-    let explored = explore(alloc, basis)?;
-    if explored.found {
-        let terms = terms(alloc, &explored.ledger, request.terms)?;
-        let text = spec_text(alloc, basis, &explored, terms.as_slice())?;
-        let Explored { ledger, .. } = explored;
+    let Explored {
+        root_trace,
+        outcome,
+    } = explore(alloc, basis)?;
+    let Outcome { ledger, entries } = outcome;
+    if entries.is_empty() {
         return Ok(Answer {
-            status: 0,
-            text,
+            status: 1,
+            text: exhausted_line(alloc, &ledger)?,
             ledger: Some(ledger),
         });
     }
-    let Explored { ledger, .. } = explored;
+    let trace = root_trace.as_slice();
+    let text = specification(alloc, basis, trace, entries.as_slice(), request.terms)?;
     Ok(Answer {
-        status: 1,
-        text: exhausted_line(alloc, &ledger)?,
+        status: 0,
+        text,
         ledger: Some(ledger),
     })
 }

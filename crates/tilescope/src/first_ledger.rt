@@ -1,5 +1,6 @@
 use sequences::Sequence;
 use steps::Step;
+use tile_rules::TileRule;
 use tiling_core::Tiling;
 
 /// What a rule of the first search does: the unit tiling, the point tiling, or the insertion of the
@@ -27,4 +28,12 @@ pub struct FirstLedger {
     pub classes: Sequence<Tiling>,
     pub rules: Sequence<FirstRule>,
     pub journal: Sequence<(u32, u32)>,
+}
+
+/// An entry of the specification that was found: its rule, the entries of the rule's children, and its rank.
+#[derive(Drop)]
+pub(crate) struct FirstEntry {
+    pub(crate) rule: TileRule,
+    pub(crate) children: Sequence<u32>,
+    pub(crate) rank: u32,
 }

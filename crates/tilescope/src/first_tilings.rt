@@ -1,6 +1,7 @@
 ghost use Rattle.std.specs.Prelude.{◌≡◌, ◌<◌, [], ◌∷◌, IfOk, All, map};
+ghost use Rattle.tiling_core.specs.Tiles.{IsTiling};
 ghost use Rattle.tiling_core.specs.Patterns.{point_at, also};
-ghost use Rattle.tiling_core.specs.Roots.{only_cell, unit_tiling, point_tiling};
+ghost use Rattle.tiling_core.specs.Roots.{only_cell, point_tiling};
 
 use gridded::{Cell, Gridded};
 use sequences::Sequence;
@@ -17,6 +18,13 @@ pub(crate) fn corner_point() -> Gridded
     ensures { result ≡ point_at only_cell }
 {
     Gridded::from_consistent(&[0], &[CORNER])
+}
+
+/// Does nothing but say what the type of a tiling keeps. Takes no memory.
+pub(crate) fn read(tiling: &Tiling)
+    ensures { IsTiling tiling.now }
+{
+    let _ = tiling.width();
 }
 
 /// The members of a tiling, whose grid has the corner, that have no point there.
@@ -41,14 +49,6 @@ pub(crate) fn with_point(alloc: Global, tiling: &Tiling) -> Result<Tiling, Alloc
     let mut lists = Vec::new(alloc);
     lists.push(Sequence::of(patterns))?;
     also(alloc, tiling, &[], lists.as_slice())
-}
-
-/// The unit tiling.
-#[tactic(auto, using(crate::proofs::Corner::cornered))]
-pub(crate) fn unit_tiling(alloc: Global) -> Result<Tiling, AllocError>
-    ensures { IfOk result (λ t. t ≡ unit_tiling) }
-{
-    Tiling::in_grid(0, 0, Vec::new(alloc), Vec::new(alloc))
 }
 
 /// The point tiling.

@@ -1,7 +1,8 @@
-ghost use Rattle.std.specs.Prelude.{◌≡◌, ◌≢◌, [], ◌∷◌, IsSome, IsNone, map, string_bytes};
+ghost use Rattle.std.specs.Prelude.{◌≡◌, ◌≢◌, [], ◌∷◌, IsNone, map, string_bytes};
+ghost use Rattle.css_domain.specs.Reasons.{Reason};
 ghost use Rattle.outside.specs.Bytes.{GrewBy};
 ghost use Rattle.outside.specs.Counts.{Rose};
-ghost use Rattle.tilescope.specs.Answers.{AreRefused, AreAccepted, IsOneOf, IsStatus, IsUsage, IsUsagePrefix};
+ghost use Rattle.tilescope.specs.Answers.{AreRefused, AreAccepted, IsOneOf, IsStatus, IsUsage, IsUsagePrefix, IsWritten, HasSpecification, HasNoSpecification, IsExpanded, IsSolved, IsSearchPrefix};
 
 use crate::answer::{Answer, answer_to};
 use crate::first_ledger::FirstLedger;
@@ -27,18 +28,25 @@ pub fn run_plain<S: Source, K: Sink>(
 ) -> Ended
     ensures source { source.new ≡ source.old }
     ensures statuses { IsStatus result.status }
-    ensures usage { result.status ≡ 2 → IsUsage (map string_bytes words.now) (K.held sink.old) (K.held sink.new) }
     ensures refused { AreRefused (map string_bytes words.now) → IsOneOf result.status (2 ∷ 5 ∷ 6 ∷ []) }
     ensures accepted { AreAccepted (map string_bytes words.now) → IsOneOf result.status (0 ∷ 1 ∷ 5 ∷ 6 ∷ []) }
-    ensures searched { IsOneOf result.status (0 ∷ 1 ∷ []) → AreAccepted (map string_bytes words.now) }
 
-    ensures solved { AreAccepted (map string_bytes words.now) → result.status ≢ 6 → IsSome result.ledger }
+    ensures found { result.status ≡ 0 → IsWritten (map string_bytes words.now) result.ledger Reason.Found (K.held sink.old) (K.held sink.new) }
+    ensures valid { result.status ≡ 0 → HasSpecification result.ledger }
+    ensures none { result.status ≡ 1 → IsWritten (map string_bytes words.now) result.ledger Reason.Exhausted (K.held sink.old) (K.held sink.new) }
+    ensures no_specification { result.status ≡ 1 → HasNoSpecification result.ledger }
+    ensures expanded { result.status ≡ 1 → IsExpanded result.ledger }
+    ensures usage { result.status ≡ 2 → IsUsage (map string_bytes words.now) (K.held sink.old) (K.held sink.new) }
+    ensures write_fault { result.status ≡ 5 → Rose (K.faults sink.old) (K.faults sink.new) }
+    ensures untouched { result.status ≡ 6 → sink.new ≡ sink.old }
+    ensures memory { result.status ≡ 6 → GrewBy (K.held sink.old) (K.held sink.new) [] }
+
+    ensures solved { AreAccepted (map string_bytes words.now) → result.status ≢ 6 → IsSolved (map string_bytes words.now) result.ledger }
     ensures no_ledger { AreRefused (map string_bytes words.now) → IsNone result.ledger }
     ensures nothing_kept { result.status ≡ 6 → IsNone result.ledger }
 
+    ensures search_prefix { AreAccepted (map string_bytes words.now) → result.status ≡ 5 → IsSearchPrefix (map string_bytes words.now) result.ledger (K.held sink.old) (K.held sink.new) }
     ensures usage_prefix { AreRefused (map string_bytes words.now) → result.status ≡ 5 → IsUsagePrefix (map string_bytes words.now) (K.held sink.old) (K.held sink.new) }
-    ensures write_fault { result.status ≡ 5 → Rose (K.faults sink.old) (K.faults sink.new) }
-    ensures memory { result.status ≡ 6 → GrewBy (K.held sink.old) (K.held sink.new) [] }
 {
     let Ok(
         Answer {

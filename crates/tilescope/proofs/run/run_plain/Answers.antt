@@ -1,5 +1,5 @@
 use Rattle.std.proofs.Common.{rules}
-use Rattle.tilescope.proofs.Answering.{answer_status, answer_refused, answer_accepted, answer_searched, answer_solved, answer_unsolved, answer_usage, answer_prefix, memory_status, memory_refused, memory_accepted, memory_searched, fault_status, fault_refused, fault_accepted, fault_searched}
+use Rattle.tilescope.proofs.Answering.{answer_status, answer_refused, answer_accepted, answer_solved, answer_unsolved, answer_valid, answer_has_memory, answer_none, answer_expanded, answer_usage, answer_found, answer_exhausted, answer_prefix, search_prefix, no_fault, memory_status, memory_refused, memory_accepted, fault_status, fault_refused, fault_accepted}
 use Rattle.tilescope.proofs.run.run_plain.Goals as goal
 
 pub returns-in_default-clause-statuses : goal.returns-in_default-clause-statuses
@@ -11,14 +11,8 @@ returns-in_default-clause-refused g c = λ _. memory_refused
 pub returns-in_default-clause-accepted : goal.returns-in_default-clause-accepted
 returns-in_default-clause-accepted g c = λ _. memory_accepted
 
-pub returns-in_default-clause-searched : goal.returns-in_default-clause-searched
-returns-in_default-clause-searched g c = memory_searched _
-
 pub returns-in-Ok-write_all-clause-statuses : goal.returns-in-Ok-write_all-clause-statuses
 returns-in-Ok-write_all-clause-statuses g c = answer_status _ _ _ _ c.in-Ok.ensures
-
-pub returns-in-Ok-write_all-clause-usage : goal.returns-in-Ok-write_all-clause-usage
-returns-in-Ok-write_all-clause-usage g c = λ e. answer_usage _ _ _ _ _ _ c.in-Ok.ensures e (search rules)
 
 pub returns-in-Ok-write_all-clause-refused : goal.returns-in-Ok-write_all-clause-refused
 returns-in-Ok-write_all-clause-refused g c = answer_refused _ _ _ _ c.in-Ok.ensures
@@ -26,14 +20,35 @@ returns-in-Ok-write_all-clause-refused g c = answer_refused _ _ _ _ c.in-Ok.ensu
 pub returns-in-Ok-write_all-clause-accepted : goal.returns-in-Ok-write_all-clause-accepted
 returns-in-Ok-write_all-clause-accepted g c = answer_accepted _ _ _ _ c.in-Ok.ensures
 
-pub returns-in-Ok-write_all-clause-searched : goal.returns-in-Ok-write_all-clause-searched
-returns-in-Ok-write_all-clause-searched g c = answer_searched _ _ _ _ c.in-Ok.ensures
+pub returns-in-Ok-write_all-clause-found : goal.returns-in-Ok-write_all-clause-found
+returns-in-Ok-write_all-clause-found g c = λ e. answer_found _ _ _ _ _ _ c.in-Ok.ensures e (search rules)
+
+pub returns-in-Ok-write_all-clause-valid : goal.returns-in-Ok-write_all-clause-valid
+returns-in-Ok-write_all-clause-valid g c = answer_valid _ _ _ _ c.in-Ok.ensures
+
+pub returns-in-Ok-write_all-clause-untouched : goal.returns-in-Ok-write_all-clause-untouched
+returns-in-Ok-write_all-clause-untouched g c = λ e. absurd (answer_has_memory _ _ _ _ c.in-Ok.ensures e)
+
+pub returns-in-Ok-write_all-clause-none : goal.returns-in-Ok-write_all-clause-none
+returns-in-Ok-write_all-clause-none g c = λ e. answer_exhausted _ _ _ _ _ _ c.in-Ok.ensures e (search rules)
+
+pub returns-in-Ok-write_all-clause-no_specification : goal.returns-in-Ok-write_all-clause-no_specification
+returns-in-Ok-write_all-clause-no_specification g c = answer_none _ _ _ _ c.in-Ok.ensures
+
+pub returns-in-Ok-write_all-clause-expanded : goal.returns-in-Ok-write_all-clause-expanded
+returns-in-Ok-write_all-clause-expanded g c = answer_expanded _ _ _ _ c.in-Ok.ensures
+
+pub returns-in-Ok-write_all-clause-usage : goal.returns-in-Ok-write_all-clause-usage
+returns-in-Ok-write_all-clause-usage g c = λ e. answer_usage _ _ _ _ _ _ c.in-Ok.ensures e (search rules)
 
 pub returns-in-Ok-write_all-clause-solved : goal.returns-in-Ok-write_all-clause-solved
 returns-in-Ok-write_all-clause-solved g c = λ a _. answer_solved _ _ _ _ c.in-Ok.ensures a
 
 pub returns-in-Ok-write_all-clause-no_ledger : goal.returns-in-Ok-write_all-clause-no_ledger
 returns-in-Ok-write_all-clause-no_ledger g c = answer_unsolved _ _ _ _ c.in-Ok.ensures
+
+pub returns-in-Ok-write_all-clause-search_prefix : goal.returns-in-Ok-write_all-clause-search_prefix
+returns-in-Ok-write_all-clause-search_prefix g c = no_fault _ _ _ _ _ _ c.in-Ok.ensures
 
 pub returns-clause-statuses : goal.returns-clause-statuses
 returns-clause-statuses g c = fault_status
@@ -44,14 +59,14 @@ returns-clause-refused g c = λ _. fault_refused
 pub returns-clause-accepted : goal.returns-clause-accepted
 returns-clause-accepted g c = λ _. fault_accepted
 
-pub returns-clause-searched : goal.returns-clause-searched
-returns-clause-searched g c = fault_searched _
-
 pub returns-clause-solved : goal.returns-clause-solved
 returns-clause-solved g c = λ a _. answer_solved _ _ _ _ c.in-Ok.ensures a
 
 pub returns-clause-no_ledger : goal.returns-clause-no_ledger
 returns-clause-no_ledger g c = answer_unsolved _ _ _ _ c.in-Ok.ensures
+
+pub returns-clause-search_prefix : goal.returns-clause-search_prefix
+returns-clause-search_prefix g c = λ a _. search_prefix _ _ _ _ _ _ c.in-Ok.ensures a (search rules)
 
 pub returns-clause-usage_prefix : goal.returns-clause-usage_prefix
 returns-clause-usage_prefix g c = λ r _. answer_prefix _ _ _ _ _ _ c.in-Ok.ensures r (search rules)
