@@ -13,7 +13,6 @@ pub mod LedgersFiled
 pub mod LedgersKept
 pub mod LedgersEnded
 pub mod SpecsPicked
-pub mod LedgersOf
 pub mod Filings
 pub mod Outcomes
 pub mod Kept

@@ -53,6 +53,7 @@ open_books patterns trace = corner_books patterns trace []
 
 -- ---- the entries of what is found
 
+-- its class is the rule's parent
 abbrev pub entry_of : TilingRule → List ℕ → ℕ → Entry Tiles TilingRule
 entry_of r children rank = record { class = r.parent; rule = r; children = children; rank = rank }
 

@@ -17,13 +17,12 @@ use Rattle.tilescope.specs.declared.first_ledger.FirstEntry.{FirstEntry}
 use Rattle.tilescope.specs.declared.first_ledger.FirstLedger.{FirstLedger}
 use Rattle.tilescope.specs.declared.first_ledger.FirstRule.{FirstRule}
 use Rattle.tilescope.specs.declared.first_ledger.FirstKind.TheVariants as first
-use Rattle.tilescope.specs.Books.{books_of, AreNumbered, point_rule, corner_books, found_entries}
+use Rattle.tilescope.specs.Books.{books_of, AreNumbered, point_rule, corner_books, entry_of, found_entries}
 use Rattle.tilescope.specs.Corners.{dot, corner, dotted, only_i}
 use Rattle.tilescope.specs.Searches.{IsExplored, IsSpecOf, TileEntries}
 
--- its class is its rule's parent
 abbrev pub as_entry : FirstEntry → Entry Tiles TilingRule
-as_entry e = record { class = e.rule.parent; rule = e.rule; children = e.children; rank = e.rank }
+as_entry e = entry_of e.rule e.children e.rank
 
 abbrev pub as_entries : List FirstEntry → TileEntries
 as_entries entries = map as_entry entries
