@@ -8,3 +8,4 @@ pub mod Compose
 pub mod Products
 pub mod Standard
 pub mod Places
+pub mod Permutations

@@ -10,6 +10,7 @@ use Rattle.patterns.specs.Parts.{IsIn, IsPart, parts}
 use Rattle.patterns.specs.Parts.IsIn.{here, later}
 use Rattle.patterns.specs.Parts.IsPart.{none, kept, left_out}
 use Rattle.patterns.specs.Occurs.{IsSameOrder, Occurs, stand_alike, stands_as, is_match, occurs}
+use Rattle.patterns.proofs.PartLaws.{IsPart-nothing}
 use Rattle.patterns.proofs.Lists.{from_IsIn-map, IsIn-map, IsIn-append_cases, IsIn-append_left, IsIn-append_right}
 
 -- ---- parts
@@ -19,12 +20,8 @@ IsIn-parts (kept {part} {whole} x h) = IsIn-append_left (parts (suc (length part
 IsIn-parts (left_out {part = []} x h) = here
 IsIn-parts (left_out {part = y ∷ part} {whole} x h) = IsIn-append_right (map (λ p. x ∷ p) (parts (length part) whole)) (IsIn-parts h)
 
-nothing_kept : {X : Type 0} (whole : List X) → IsPart [] whole
-nothing_kept [] = none
-nothing_kept (x ∷ xs) = left_out x (nothing_kept xs)
-
 pub from_IsIn-parts : {X : Type 0} (n : ℕ) (whole : List X) {part : List X} → IsIn part (parts n whole) → IsPart part whole × (length part ≡ n)
-from_IsIn-parts zero whole here = (nothing_kept whole, refl)
+from_IsIn-parts zero whole here = (IsPart-nothing whole, refl)
 from_IsIn-parts zero whole (later _ h) = elim h [ ]
 from_IsIn-parts (suc n) [] h = elim h [ ]
 from_IsIn-parts {X} (suc n) (x ∷ whole) {part} h =

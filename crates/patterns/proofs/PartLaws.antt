@@ -1,8 +1,9 @@
 -- Laws of parts: they compose, and go through a map and a filter; a part stands at rising places.
-use Rattle.std.proofs.Common.{◌≡◌, ℕ, zero, suc, pred, Bool, true, false, cond, List, [], ◌∷◌, length, refl, ap, arith}
-use Rattle.std.specs.Prelude.{map}
+use Rattle.std.proofs.Common.{◌≡◌, ℕ, zero, suc, pred, ◌≤◌, Bool, true, false, cond, List, [], ◌∷◌, length, refl, ap, inl, inr, ⊎_elim, arith}
+use Rattle.std.specs.Prelude.{map, ◌⊎◌}
 use Rattle.std.specs.List.{filter, AllByRecursion}
-use Rattle.patterns.specs.Parts.{IsPart, IsRising, StandAt}
+use Rattle.patterns.specs.Parts.{IsPart, IsIn, IsRising, StandAt}
+use Rattle.patterns.specs.Parts.IsIn.{here, later}
 use Rattle.patterns.specs.Parts.IsPart.{none, kept, left_out}
 
 pub IsPart-itself : {X : Type 0} (xs : List X) → IsPart xs xs
@@ -15,6 +16,40 @@ IsPart-trans (kept x h) (kept _ k) = kept x (IsPart-trans h k)
 IsPart-trans (left_out x h) (kept _ k) = left_out x (IsPart-trans h k)
 IsPart-trans h (left_out y k) = left_out y (IsPart-trans h k)
 
+-- ---- small parts, and parts as long as the whole
+pub IsPart-nothing : {X : Type 0} (whole : List X) → IsPart [] whole
+IsPart-nothing [] = none
+IsPart-nothing (x ∷ xs) = left_out x (IsPart-nothing xs)
+
+pub IsPart-one : {X : Type 0} {x : X} {whole : List X} → IsIn x whole → IsPart (x ∷ []) whole
+IsPart-one (here {xs = xs}) = kept _ (IsPart-nothing xs)
+IsPart-one (later y m) = left_out y (IsPart-one m)
+
+-- of two different items, one stands before the other
+pub IsPart-two : {X : Type 0} {x y : X} {whole : List X} → IsIn x whole → IsIn y whole → (x ≡ y → ⊥) → IsPart (x ∷ y ∷ []) whole ⊎ IsPart (y ∷ x ∷ []) whole
+IsPart-two here here apart = absurd (apart refl)
+IsPart-two here (later _ m) apart = inl (kept _ (IsPart-one m))
+IsPart-two (later _ m) here apart = inr (kept _ (IsPart-one m))
+IsPart-two {x = x} {y = y} (later {xs = xs} z m) (later _ k) apart =
+    ⊎_elim {C = IsPart (x ∷ y ∷ []) (z ∷ xs) ⊎ IsPart (y ∷ x ∷ []) (z ∷ xs)} (λ a. inl (left_out z a)) (λ a. inr (left_out z a)) (IsPart-two m k apart)
+
+pub IsIn-IsPart : {X : Type 0} {x : X} {part whole : List X} → IsPart part whole → IsIn x part → IsIn x whole
+IsIn-IsPart none m = m
+IsIn-IsPart (kept y h) here = here
+IsIn-IsPart (kept y h) (later _ m) = later y (IsIn-IsPart h m)
+IsIn-IsPart (left_out y h) m = later y (IsIn-IsPart h m)
+
+pub length-IsPart : {X : Type 0} {part whole : List X} → IsPart part whole → length part ≤ length whole
+length-IsPart none = omega arith
+length-IsPart (kept x h) = omega (arith, length-IsPart h)
+length-IsPart (left_out x h) = omega (arith, length-IsPart h)
+
+pub IsPart-as_long : {X : Type 0} {part whole : List X} → IsPart part whole → length whole ≤ length part → part ≡ whole
+IsPart-as_long none l = refl
+IsPart-as_long (kept x h) l = ap (λ rest. x ∷ rest) (IsPart-as_long h (omega arith))
+IsPart-as_long (left_out x h) l = absurd (omega (arith, length-IsPart h))
+
+-- ---- maps and filters
 pub IsPart-map : {X Y : Type 0} (f : X → Y) {a b : List X} → IsPart a b → IsPart (map f a) (map f b)
 IsPart-map f none = none
 IsPart-map f (kept x h) = kept (f x) (IsPart-map f h)
@@ -78,12 +113,8 @@ shifted_down z xs from end (k ∷ ks) [] r h = absurd h
 shifted_down z xs from end (zero ∷ ks) (y ∷ ys) r h = absurd (omega (arith, r.0))
 shifted_down z xs from end (suc k ∷ ks) (y ∷ ys) r h = (h.0, shifted_down z xs (suc k) end ks ys r.2 h.1)
 
-no_places : {X : Type 0} (whole : List X) → IsPart [] whole
-no_places [] = none
-no_places (x ∷ xs) = left_out x (no_places xs)
-
 pub part_at_places : {X : Type 0} (whole : List X) (ks : List ℕ) (part : List X) → IsRising 0 (length whole) ks → StandAt whole ks part → IsPart part whole
-part_at_places whole [] [] r h = no_places whole
+part_at_places whole [] [] r h = IsPart-nothing whole
 part_at_places whole [] (y ∷ ys) r h = absurd h
 part_at_places whole (k ∷ ks) [] r h = absurd h
 part_at_places [] (k ∷ ks) (y ∷ ys) r h = absurd (omega (arith, r.1))

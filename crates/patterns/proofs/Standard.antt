@@ -9,20 +9,20 @@ use Rattle.patterns.specs.Parts.IsIn.{here, later}
 use Rattle.patterns.specs.Occurs.{IsSameOrder}
 use Rattle.patterns.specs.Ranks.{rank, standardised}
 
-abbrev one_below : ℕ → ℕ → ℕ
+abbrev pub one_below : ℕ → ℕ → ℕ
 one_below x y = cond (nat_lt y x) 1 0
 
-rank-cons : (y x : ℕ) (xs : List ℕ) → rank (y ∷ xs) x ≡ one_below x y + rank xs x
+pub rank-cons : (y x : ℕ) (xs : List ℕ) → rank (y ∷ xs) x ≡ one_below x y + rank xs x
 rank-cons y x xs = sum_by-cons (λ z. cond (nat_lt z x) 1 0) y xs
 
-rank_le : (x y : ℕ) (xs : List ℕ) → x ≤ y → rank xs x ≤ rank xs y
+pub rank_le : (x y : ℕ) (xs : List ℕ) → x ≤ y → rank xs x ≤ rank xs y
 rank_le x y [] h = omega arith
 rank_le x y (z ∷ xs) h =
     let ih = rank_le x y xs h in
     let step : one_below x z ≤ one_below y z = grind (arith, nat_tests) in
     rw (rank-cons z x xs, rank-cons z y xs) (omega arith)
 
-rank_lt : (x y : ℕ) {xs : List ℕ} → x < y → IsIn x xs → rank xs x < rank xs y
+pub rank_lt : (x y : ℕ) {xs : List ℕ} → x < y → IsIn x xs → rank xs x < rank xs y
 rank_lt x y h (here {xs = xs}) =
     let rest = rank_le x y xs (omega arith) in
     let mine : one_below x x ≡ 0 = grind (arith, nat_tests) in
@@ -43,12 +43,12 @@ rank-lt-length x (later {xs = xs} z m) =
     let small : one_below x z ≤ 1 = grind (arith, nat_tests) in
     rw (rank-cons z x xs) (omega arith)
 
-in_at : (xs : List ℕ) (i : ℕ) → i < length xs → IsIn (get_or xs i 0) xs
+pub in_at : (xs : List ℕ) (i : ℕ) → i < length xs → IsIn (get_or xs i 0) xs
 in_at [] i h = absurd (omega arith)
 in_at (x ∷ xs) zero h = here
 in_at (x ∷ xs) (suc i) h = later x (in_at xs i (omega arith))
 
-rank_order : (xs : List ℕ) (x y : ℕ) → IsIn x xs → IsIn y xs → (rank xs x < rank xs y) ↔ (x < y)
+pub rank_order : (xs : List ℕ) (x y : ℕ) → IsIn x xs → IsIn y xs → (rank xs x < rank xs y) ↔ (x < y)
 rank_order xs x y h k = ((λ l. lower x y l), (λ l. rank_lt x y l h))
   where
     lower : (a b : ℕ) → rank xs a < rank xs b → a < b
