@@ -2,6 +2,15 @@ pub mod Slots
 pub mod Ways
 pub mod Convolution
 pub mod Determined
+pub mod Finding
+pub mod Growing
+pub mod Filings
+pub mod Classes
+pub mod Within
+pub mod Sizes
+pub mod Orders
+pub mod SpecStands
+pub mod AllFiled
 pub mod StandingLaws
 pub mod Rows
 pub mod StandingRows

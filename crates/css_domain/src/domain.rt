@@ -6,8 +6,9 @@ use std::alloc::{AllocError, Global};
 use std::hash::Hash;
 
 /// Classes with a count for each length, and rules that make a class from others (docs/RULES.md, "Classes,
-/// rules and counts"). Where a rule holds, the count of its parent combines those of its children.
-pub trait Domain {
+/// rules and counts"). Where a rule holds, the count of its parent combines those of its children. Threads
+/// may share it.
+pub trait Domain: Send + Sync {
     ghost use Rattle.css_domain.specs.Meanings.{Meaning};
 
     /// Two classes are equal exactly where contracts see the same value.

@@ -54,6 +54,8 @@ unit_numbered (suc k) h = absurd (omega (arith, h))
 pub unit_kept : IsComplete (unit_rule ∷ []) unit_tiling only_i → IsLedger tile_meaning unit_books
 unit_kept filed =
     record {
+      some_budget = omega arith;
+      few_budget = omega arith;
       distinct = one_more none_in no_element;
       once = one_number;
       numbered = unit_numbered;
@@ -105,6 +107,8 @@ open_last patterns trace = record { third = open_classes patterns trace; filed =
 pub corner_kept : (patterns : List (List Point)) (trace : List Step) (last : List TilingRule) → IsLastFiling patterns trace last → IsCornerFiled patterns trace last → IsLedger tile_meaning (corner_books patterns trace last)
 corner_kept patterns trace last third filed =
     record {
+      some_budget = omega arith;
+      few_budget = omega arith;
       distinct = subst (λ cs. NoRepeats {X = Tiles} cs) (sym third.third) (three_distinct patterns);
       once = three_numbers;
       numbered = corner_numbered patterns trace last;
