@@ -1,86 +1,125 @@
--- How many preimages there can be, so that their number fits 64 bits.
-use Rattle.std.proofs.Common.{◌≡◌, ℕ, zero, suc, ◌+◌, ◌-◌, ◌*◌, ◌<◌, ◌≤◌, Bool, true, false, List, [], ◌∷◌, ◌++◌, length, drop, refl, ap, arith, length-append}
-use Rattle.std.specs.Prelude.{cond}
-use Rattle.std.specs.List.{range_with_len, flat_map}
-use Rattle.gridded.specs.Grids.{Point}
+-- How many preimages there are: the ways of the cut column's points, times those of the cut row's.
+use Rattle.std.proofs.Common.{◌≡◌, ℕ, suc, ◌+◌, ◌*◌, ◌<◌, ◌≤◌, Bool, true, false, List, [], ◌∷◌, ◌++◌, length, refl, sym, ap, ◌∙◌, arith, inl, inr}
+use Rattle.std.specs.Prelude.{◌&&◌, ◌||◌, not, map, nat_lt, nat_eq, ◌==◌, cond, count_by}
+use Rattle.std.specs.List.{list_all, list_any, AllByRecursion}
+use Rattle.std.proofs.lemmas.Bool.Decides.{nat_tests}
+use Rattle.std.proofs.lemmas.List.{map-append}
+use Rattle.std.proofs.lemmas.List.Sums.{sum_by-cons}
+use Rattle.patterns.specs.Words.{has_no_repeats}
+use Rattle.patterns.proofs.Booleans.{and_true}
+use Rattle.gridded.specs.Grids.{Point, may_follow, is_consistent}
+use Rattle.gridded.specs.declared.cell.Cell.{Cell}
+use Rattle.gridded.specs.Orders.{letters_of, cells_of}
 use Rattle.coord_maps.specs.declared.grid_map.GridMap.{GridMap}
-use Rattle.coord_maps.specs.LineMaps.{Cut, IsCut, first_line, parts_of}
-use Rattle.coord_maps.specs.GridMaps.{IsGridMap, fits_old}
-use Rattle.coord_maps.specs.Preimages.{may_come, put, completions, in_cell, in_column}
-use Rattle.coord_maps.proofs.Runs.{run_within}
-use Rattle.coord_maps.proofs.Lists.{in_old}
-use Rattle.coord_maps.proofs.Loops.{range_more}
+use Rattle.coord_maps.specs.GridMaps.{IsGridMap}
+use Rattle.coord_maps.specs.Preimages.{lines_over, may_come, put, completions, in_cell, in_column}
+use Rattle.coord_maps.specs.Ways.{ways}
+use Rattle.coord_maps.proofs.Choosing.{total, length-flat_map, total-agree, total-times, total-times_right, Mark, line_of, columns_rise, rows_agree, comes, ways_from, IsApart, AreApart, AreRising, count_of, columns_counted, rows_counted}
 
--- 64 to the power of n
-abbrev pub most : ℕ → ℕ
-most zero = 1
-most (suc n) = 64 * most n
+abbrev column_mark : Point → Mark
+column_mark p = (p.letter, p.cell.x)
 
-run_few : {Z : Type 0} (f : ℕ → List Z) (a n b : ℕ) → ((i : ℕ) → length (f i) ≤ b) → length (flat_map f (range_with_len a n)) ≤ n * b
-run_few f a zero b e = omega arith
-run_few f a (suc n) b e = omega (arith, length-append (f a) (flat_map f (range_with_len (a + 1) n)), e a, run_few f (a + 1) n b e)
+abbrev row_mark : Point → Mark
+row_mark p = (p.letter, p.cell.y)
 
-few_parts : (m : Cut) (old : ℕ) → IsCut m → old < m.lines → parts_of m old ≤ 8
-few_parts m old k h = omega (arith, run_within m old k h, k.few)
-
-cell_few : (m : GridMap) (s : List Point) (p : Point) (g : List Point) (x y b : ℕ) → ((t : List Point) → length (completions m t g) ≤ b) → length (in_cell m s p g x y) ≤ b
-cell_few m s p g x y b e = go (may_come s (put p x y))
+-- a point may come where its column and its row may
+come_along_both : (s : List Point) (q : Point) → may_come s q ≡ (comes columns_rise (map column_mark s) (column_mark q) && comes rows_agree (map row_mark s) (row_mark q))
+come_along_both [] q = refl
+come_along_both (p ∷ s) q =
+    rw (come_along_both s q) (shuffled (columns_rise (column_mark p) (column_mark q)) (rows_agree (row_mark p) (row_mark q)) (comes columns_rise (map column_mark s) (column_mark q)) (comes rows_agree (map row_mark s) (row_mark q)))
   where
-    go : (c : Bool) → length (cond c (completions m (s ++ put p x y ∷ []) g) []) ≤ b
-    go true = e (s ++ put p x y ∷ [])
-    go false = omega arith
+    shuffled : (a b c d : Bool) → (a && b && (c && d)) ≡ (a && c && (b && d))
+    shuffled true true c d = refl
+    shuffled true false true d = refl
+    shuffled true false false d = refl
+    shuffled false b c d = refl
 
-times : (n b : ℕ) → n ≤ 8 → n * b ≤ 8 * b
-times n b h = grind arith
-
-column_few : (m : GridMap) (s : List Point) (p : Point) (g : List Point) (x b : ℕ) → IsGridMap m → p.cell.y < m.rows.lines → ((t : List Point) → length (completions m t g) ≤ b) → length (in_column m s p g x) ≤ 8 * b
-column_few m s p g x b k h e =
-    omega (arith, run_few (in_cell m s p g x) (first_line m.rows p.cell.y) (parts_of m.rows p.cell.y) b (λ y. cell_few m s p g x y b e), times (parts_of m.rows p.cell.y) b (few_parts m.rows p.cell.y k.rows h))
-
-pub completions_few : (m : GridMap) (s g : List Point) → IsGridMap m → fits_old m g ≡ true → length (completions m s g) ≤ most (length g)
-completions_few m s [] k e = omega arith
-completions_few m s (p ∷ g) k e =
-    let o = in_old m p g e in
-    omega (
-      arith,
-      run_few (in_column m s p g) (first_line m.columns p.cell.x) (parts_of m.columns p.cell.x) (8 * most (length g)) (λ x. column_few m s p g x (most (length g)) k o.1 (λ t. completions_few m t g k o.2)),
-      times (parts_of m.columns p.cell.x) (8 * most (length g)) (few_parts m.columns p.cell.x k.columns o.0),
-    )
-
-most_rises : (k n : ℕ) → k ≤ n → most k ≤ most n
-most_rises zero zero h = omega arith
-most_rises zero (suc n) h = omega (arith, most_rises zero n (omega arith))
-most_rises (suc k) zero h = absurd (omega arith)
-most_rises (suc k) (suc n) h = omega (arith, most_rises k n (omega arith))
-
--- what is counted in one more cell still fits
-pub count_small : (m : GridMap) (s t : List Point) (p : Point) (g : List Point) (x y fx fy so_far count r : ℕ) → IsGridMap m → p.cell.y < m.rows.lines → fits_old m g ≡ true → length g ≤ 8 → x - fx ≤ 7 → y - fy ≤ 7
-    → so_far ≡ length (flat_map (in_column m s p g) (range_with_len fx (x - fx))) → count ≡ so_far + length (flat_map (in_cell m s p g x) (range_with_len fy (y - fy))) → r ≡ length (completions m t g) → count + r < 18446744073709551616
-count_small m s t p g x y fx fy so_far count r k h e short nx ny a b c =
-    let B = most (length g) in
-    let few : B ≤ 281474976710656 = most_rises (length g) 8 short in
-    let each = λ (u : List Point). completions_few m u g k e in
-    omega (
-      arith,
-      a,
-      b,
-      c,
-      few,
-      each t,
-      run_few (in_column m s p g) fx (x - fx) (8 * B) (λ i. column_few m s p g i B k h each),
-      scaled (x - fx) (8 * B) nx,
-      run_few (in_cell m s p g x) fy (y - fy) B (λ i. cell_few m s p g x i B each),
-      scaled (y - fy) B ny,
-    )
+completions_counted : (m : GridMap) (s g : List Point)
+    → length (completions m s g) ≡ ways_from columns_rise (lines_over m.columns) (map column_mark s) (map column_mark g) * ways_from rows_agree (lines_over m.rows) (map row_mark s) (map row_mark g)
+completions_counted m s [] = refl
+completions_counted m s (p ∷ g) =
+    length-flat_map (in_column m s p g) (lines_over m.columns p.cell.x)
+    ∙ total-agree (λ x. length (in_column m s p g x)) (λ x. columns x * total rows (lines_over m.rows p.cell.y))
+    (λ x. length-flat_map (in_cell m s p g x) (lines_over m.rows p.cell.y)
+    ∙ total-agree (λ y. length (in_cell m s p g x y)) (λ y. columns x * rows y) (λ y. in_one x y (completions_counted m (s ++ put p x y ∷ []) g)) (lines_over m.rows p.cell.y)
+    ∙ total-times rows (columns x) (lines_over m.rows p.cell.y)) (lines_over m.columns p.cell.x)
+    ∙ total-times_right columns (total rows (lines_over m.rows p.cell.y)) (lines_over m.columns p.cell.x)
   where
-    scaled : (n b : ℕ) → n ≤ 7 → n * b ≤ 7 * b
-    scaled n b h = grind arith
+    columns : ℕ → ℕ
+    columns x = cond (comes columns_rise (map column_mark s) (p.letter, x)) (ways_from columns_rise (lines_over m.columns) (map column_mark s ++ (p.letter, x) ∷ []) (map column_mark g)) 0
 
-pub counted : {Z : Type 0} (f : ℕ → List Z) (base now next first y : ℕ) → first ≤ y → now ≡ base + length (flat_map f (range_with_len first (y - first))) → next ≡ now + length (f y) → next ≡ base + length (flat_map f (range_with_len first (y + 1 - first)))
-counted f base now next first y h e k =
-    omega (arith, e, k, ap (λ r. length r) (range_more f first y h), length-append (flat_map f (range_with_len first (y - first))) (f y))
+    rows : ℕ → ℕ
+    rows y = cond (comes rows_agree (map row_mark s) (p.letter, y)) (ways_from rows_agree (lines_over m.rows) (map row_mark s ++ (p.letter, y) ∷ []) (map row_mark g)) 0
 
-pub inside_rest : (m : GridMap) (g : List Point) (n : ℕ) → fits_old m g ≡ true → fits_old m (drop n g) ≡ true
-inside_rest m g zero e = e
-inside_rest m [] (suc n) e = refl
-inside_rest m (p ∷ g) (suc n) e = inside_rest m g n (in_old m p g e).2
+    both : (a b : Bool) (h : List (List Point)) (u v : ℕ) → length h ≡ u * v → length (cond (a && b) h []) ≡ cond a u 0 * cond b v 0
+    both true true h u v e = e
+    both true false h u v e = omega arith
+    both false b h u v e = omega arith
+
+    in_one : (x y : ℕ)
+        → length (completions m (s ++ put p x y ∷ []) g) ≡ ways_from columns_rise (lines_over m.columns) (map column_mark (s ++ put p x y ∷ [])) (map column_mark g) * ways_from rows_agree (lines_over m.rows) (map row_mark (s ++ put p x y ∷ [])) (map row_mark g)
+        → length (in_cell m s p g x y) ≡ columns x * rows y
+    in_one x y ih =
+        ap (λ b. length (cond b (completions m (s ++ put p x y ∷ []) g) [])) (come_along_both s (put p x y))
+        ∙ both (comes columns_rise (map column_mark s) (p.letter, x)) (comes rows_agree (map row_mark s) (p.letter, y)) (completions m (s ++ put p x y ∷ []) g) _ _
+        (ih ∙ (λ i. ways_from columns_rise (lines_over m.columns) (map-append column_mark s (put p x y ∷ []) i) (map column_mark g) * ways_from rows_agree (lines_over m.rows) (map-append row_mark s (put p x y ∷ []) i) (map row_mark g)))
+
+-- ---- what a gridded permutation keeps
+columns_of_rise : (g : List Point) → is_consistent g ≡ true → AreRising (map line_of (map column_mark g))
+columns_of_rise [] e = tt
+columns_of_rise (p ∷ g) e = let a = and_true (list_all (λ q. may_follow p q) g) (is_consistent g) e in (each g a.0, columns_of_rise g a.1)
+  where
+    each : (h : List Point) → list_all (λ q. may_follow p q) h ≡ true → AllByRecursion (λ y. p.cell.x ≤ y) (map line_of (map column_mark h))
+    each [] e = tt
+    each (q ∷ h) e =
+        let a = and_true (may_follow p q) (list_all (λ r. may_follow p r) h) e in
+        let b = and_true (columns_rise (column_mark p) (column_mark q)) (rows_agree (row_mark p) (row_mark q)) a.0 in
+        let rises : p.cell.x ≤ q.cell.x = grind (arith, nat_tests, b.0) in
+        (rises, each h a.1)
+
+rows_of_apart : (g : List Point) → is_consistent g ≡ true → has_no_repeats (letters_of g) ≡ true → AreApart (map row_mark g)
+rows_of_apart [] e d = tt
+rows_of_apart (p ∷ g) e d =
+    let a = and_true (list_all (λ q. may_follow p q) g) (is_consistent g) e in
+    let b = and_true (not (list_any (λ l. p.letter == l) (letters_of g))) (has_no_repeats (letters_of g)) d in
+    (each g a.0 b.0, rows_of_apart g a.1 b.1)
+  where
+    apart : (q : Point) → rows_agree (row_mark p) (row_mark q) ≡ true → nat_eq p.letter q.letter ≡ false → IsApart (row_mark p) (row_mark q)
+    apart q e d = go (nat_lt p.letter q.letter) refl
+      where
+        go : (b : Bool) → nat_lt p.letter q.letter ≡ b → IsApart (row_mark p) (row_mark q)
+        go true t = inl (let low : p.letter < q.letter = grind (arith, nat_tests, t) in let rises : p.cell.y ≤ q.cell.y = grind (arith, nat_tests, t, e) in (low, rises))
+        go false t =
+            let low : q.letter < p.letter = grind (arith, nat_tests, t, d) in
+            inr (let rises : q.cell.y ≤ p.cell.y = grind (arith, nat_tests, e, d, t) in (low, rises))
+
+    either : (a b : Bool) → not (a || b) ≡ true → (a ≡ false) × (not b ≡ true)
+    either true b e = absurd cc
+    either false b e = (refl, e)
+
+    each : (h : List Point) → list_all (λ q. may_follow p q) h ≡ true → not (list_any (λ l. p.letter == l) (letters_of h)) ≡ true → AllByRecursion (λ q. IsApart (row_mark p) q) (map row_mark h)
+    each [] e d = tt
+    each (q ∷ h) e d =
+        let a = and_true (may_follow p q) (list_all (λ r. may_follow p r) h) e in
+        let b = and_true (columns_rise (column_mark p) (column_mark q)) (rows_agree (row_mark p) (row_mark q)) a.0 in
+        let c = either (p.letter == q.letter) (list_any (λ l. p.letter == l) (letters_of h)) d in
+        (apart q b.1 c.0, each h a.1 c.1)
+
+count_along : (f : Point → Mark) (line : Cell → ℕ) → ((p : Point) → line_of (f p) ≡ line p.cell) → (at : ℕ) (g : List Point) → count_of at (map line_of (map f g)) ≡ count_by (λ c. nat_eq (line c) at) (cells_of g)
+count_along f line e at [] = refl
+count_along f line e at (p ∷ g) =
+    ap (λ n. cond (nat_eq (line_of (f p)) at) (suc n) n) (count_along f line e at g)
+    ∙ ap (λ l. cond (nat_eq l at) (suc (count_by (λ c. nat_eq (line c) at) (cells_of g))) (count_by (λ c. nat_eq (line c) at) (cells_of g))) (e p)
+    ∙ one_more (nat_eq (line p.cell) at) (count_by (λ c. nat_eq (line c) at) (cells_of g))
+    ∙ sym (sum_by-cons (λ c. cond (nat_eq (line c) at) 1 0) p.cell (cells_of g))
+  where
+    one_more : (b : Bool) (n : ℕ) → cond b (suc n) n ≡ cond b 1 0 + n
+    one_more true n = omega arith
+    one_more false n = omega arith
+
+pub counted : (m : GridMap) (g : List Point) → IsGridMap m → is_consistent g ≡ true → has_no_repeats (letters_of g) ≡ true
+    → length (completions m [] g) ≡ ways (count_by (λ c. nat_eq c.x m.columns.at) (cells_of g)) m.columns.parts * ways (count_by (λ c. nat_eq c.y m.rows.at) (cells_of g)) m.rows.parts
+counted m g k c d =
+    completions_counted m [] g
+    ∙ (λ i. columns_counted m.columns (map column_mark g) k.columns (columns_of_rise g c) i * rows_counted m.rows (map row_mark g) k.rows (rows_of_apart g c d) i)
+    ∙ (λ i. ways (count_along column_mark (λ c. c.x) (λ p. refl) m.columns.at g i) m.columns.parts * ways (count_along row_mark (λ c. c.y) (λ p. refl) m.rows.at g i) m.rows.parts)

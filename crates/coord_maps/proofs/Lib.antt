@@ -3,6 +3,7 @@ pub mod Runs
 pub mod Lists
 pub mod Placed
 pub mod Loops
+pub mod Choosing
 pub mod Counts
 pub mod Insides
 pub mod Memberships

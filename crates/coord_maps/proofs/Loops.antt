@@ -14,7 +14,7 @@ range-push : (a n : ℕ) → range_with_len a (suc n) ≡ range_with_len a n ++ 
 range-push a zero = let none : a ≡ a + 0 = omega arith in ap (λ k. k ∷ []) none
 range-push a (suc n) = let up : a + 1 + n ≡ a + suc n = omega arith in ap (λ r. a ∷ r) (range-push (a + 1) n ∙ ap (λ k. range_with_len (a + 1) n ++ k ∷ []) up)
 
-pub range_more : {Z : Type 0} (f : ℕ → List Z) (first y : ℕ) → first ≤ y → flat_map f (range_with_len first (y + 1 - first)) ≡ flat_map f (range_with_len first (y - first)) ++ f y
+range_more : {Z : Type 0} (f : ℕ → List Z) (first y : ℕ) → first ≤ y → flat_map f (range_with_len first (y + 1 - first)) ≡ flat_map f (range_with_len first (y - first)) ++ f y
 range_more f first y h =
     let up : y + 1 - first ≡ suc (y - first) = omega arith in
     let there : first + (y - first) ≡ y = omega arith in

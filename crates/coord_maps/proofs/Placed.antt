@@ -1,8 +1,7 @@
 -- Points that are placed one after another.
 use Rattle.std.proofs.Common.{◌≡◌, ℕ, zero, suc, ◌+◌, ◌<◌, ◌≤◌, Bool, true, false, List, [], ◌∷◌, ◌++◌, length, get_or, set, take, drop, refl, sym, ap, ◌∙◌, subst, arith}
-use Rattle.std.specs.Prelude.{◌&&◌, nat_lt, All}
+use Rattle.std.specs.Prelude.{◌&&◌, All}
 use Rattle.std.specs.List.{list_all, AllByRecursion}
-use Rattle.std.proofs.lemmas.Bool.Decides.{nat_tests}
 use Rattle.std.proofs.lemmas.List.{length-map, length-take-le, take_more, take_more_set}
 use Rattle.std.proofs.lemmas.List.Elements.{All-from_recursion, recursion_from_All}
 use Rattle.patterns.proofs.Booleans.{and_true, both_true, and_none, and_end}
@@ -10,8 +9,6 @@ use Rattle.gridded.specs.declared.cell.Cell.{Cell}
 use Rattle.gridded.specs.Grids.{Point, points, letter_of, may_follow, is_consistent, IsGridded, FitTogether}
 use Rattle.gridded.specs.Orders.{letters_of, cells_of}
 use Rattle.gridded.specs.PointLaws.{letters_of-points, length-points}
-use Rattle.coord_maps.specs.declared.grid_map.GridMap.{GridMap}
-use Rattle.coord_maps.specs.GridMaps.{fits_old}
 use Rattle.coord_maps.proofs.Moves.{so_is_true}
 use Rattle.coord_maps.specs.Preimages.{may_come, placed_points, point_at}
 
@@ -87,14 +84,6 @@ pub rest_from : (g : List Point) (n : ℕ) → n < length g → drop n g ≡ poi
 rest_from [] n h = absurd (omega arith)
 rest_from (p ∷ g) zero h = refl
 rest_from (p ∷ g) (suc n) h = let up : suc n + 1 ≡ suc (n + 1) = omega arith in rw up (rest_from g n (omega arith))
-
-pub inside_at : (m : GridMap) (g : List Point) (n : ℕ) → n < length g → fits_old m g ≡ true → ((point_at g n).cell.x < m.columns.lines) × ((point_at g n).cell.y < m.rows.lines)
-inside_at m [] n h e = absurd (omega arith)
-inside_at m (p ∷ g) zero h e =
-    let a = and_true (nat_lt p.cell.x m.columns.lines && nat_lt p.cell.y m.rows.lines) (fits_old m g) e in
-    let b = and_true (nat_lt p.cell.x m.columns.lines) (nat_lt p.cell.y m.rows.lines) a.0 in
-    (grind (arith, nat_tests, b.0), grind (arith, nat_tests, b.1))
-inside_at m (p ∷ g) (suc n) h e = inside_at m g n (omega arith) (and_true (nat_lt p.cell.x m.columns.lines && nat_lt p.cell.y m.rows.lines) (fits_old m g) e).1
 
 -- ---- all points are placed
 take_all : {X : Type 0} (xs : List X) (n : ℕ) → n ≡ length xs → take n xs ≡ xs

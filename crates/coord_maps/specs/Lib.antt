@@ -2,4 +2,5 @@ pub mod LineMaps
 pub mod GridMaps
 pub mod Preimages
 pub mod Stretches
+pub mod Ways
 pub mod Laws

@@ -1,44 +1,36 @@
-ghost use Rattle.std.specs.Prelude.{◌≡◌, ◌≤◌, true, length, drop};
-ghost use Rattle.gridded.specs.Grids.{IsGridded};
+ghost use Rattle.std.specs.Prelude.{◌≡◌, ◌≤◌, true, length, nat_eq, count_by};
 ghost use Rattle.coord_maps.specs.GridMaps.{fits_old};
-ghost use Rattle.coord_maps.specs.Preimages.{preimages, completions, placed_points};
+ghost use Rattle.coord_maps.specs.Preimages.{preimages};
 
 use crate::grid_map::GridMap;
-use crate::listing::may_come;
 use gridded::{Cell, Gridded};
 
-/// The number of the preimages whose first points are in some cells.
-fn count_from(map: &GridMap, g: &Gridded, cells: [Cell; 9], placed: usize) -> u64
-    requires inside { fits_old map.now g.now ≡ true }
-    requires within { placed ≤ length g.now }
-    ensures gridded { IsGridded g.now }
-    ensures counted { result ≡ length (completions map.now (placed_points g.now cells placed) (drop placed g.now)) }
+/// How many cells lie in the column that is cut, and how many in the row.
+fn cut_cells(map: &GridMap, cells: &[Cell]) -> (usize, usize)
+    ensures columns { result.0 ≡ count_by (λ c. nat_eq c.x map.now.columns.at) cells.now }
+    ensures rows { result.1 ≡ count_by (λ c. nat_eq c.y map.now.rows.at) cells.now }
 {
-    if placed == g.letters().len() {
-        return 1;
-    }
-    map.kept();
-    let old = g.cells()[placed];
-    let mut count = 0;
-    for x in map.columns.first_line(old.x)..map.columns.end_line(old.x) {
-        for y in map.rows.first_line(old.y)..map.rows.end_line(old.y) {
-            let cell = Cell { x, y };
-            if may_come(g, &cells, placed, cell) {
-                let mut longer = cells;
-                longer[placed] = cell;
-                count += count_from(map, g, longer, placed + 1);
-            }
+    let mut columns = 0;
+    let mut rows = 0;
+    for cell in cells {
+        if map.columns.cuts(cell.x) {
+            columns += 1;
+        }
+        if map.rows.cuts(cell.y) {
+            rows += 1;
         }
     }
-    count
+    (columns, rows)
 }
 
 /// The number of the gridded permutations of the new grid that collapse to `g`, which lies in the old grid
-/// (docs/RULES.md, "Grid maps"). Takes no memory.
+/// (docs/RULES.md, "Grid maps"). Columns and rows are chosen apart, each in as many ways as the points of the cut
+/// line go, in order, into its parts. Takes no memory.
 pub fn preimage_count(map: &GridMap, g: &Gridded) -> u64
     requires { fits_old map.now g.now ≡ true }
     ensures { result ≡ length (preimages map.now g.now) }
 {
     map.kept();
-    count_from(map, g, [Cell { x: 0, y: 0 }; 9], 0)
+    let (columns, rows) = cut_cells(map, g.cells());
+    map.columns.ways(columns) * map.rows.ways(rows)
 }

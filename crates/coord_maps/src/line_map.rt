@@ -1,7 +1,23 @@
-ghost use Rattle.std.specs.Prelude.{◌≡◌, ◌<◌, ◌≤◌, ◌+◌, ◌-◌, ◌⊎◌};
+ghost use Rattle.std.specs.Prelude.{◌≡◌, ◌<◌, ◌≤◌, ◌+◌, ◌-◌, ◌⊎◌, nat_eq};
 ghost use Rattle.coord_maps.specs.LineMaps.{IsCut, new_lines, old_line, first_line, parts_of};
+ghost use Rattle.coord_maps.specs.Ways.{ways};
 
 use std::marker::Model;
+
+/// In how many ways some points go, in order, into some parts: a row for each number of points, a place for each
+/// number of parts.
+const WAYS: [[u16; 9]; 10] = [
+    [1, 1, 1, 1, 1, 1, 1, 1, 1],
+    [0, 1, 2, 3, 4, 5, 6, 7, 8],
+    [0, 1, 3, 6, 10, 15, 21, 28, 36],
+    [0, 1, 4, 10, 20, 35, 56, 84, 120],
+    [0, 1, 5, 15, 35, 70, 126, 210, 330],
+    [0, 1, 6, 21, 56, 126, 252, 462, 792],
+    [0, 1, 7, 28, 84, 210, 462, 924, 1716],
+    [0, 1, 8, 36, 120, 330, 792, 1716, 3432],
+    [0, 1, 9, 45, 165, 495, 1287, 3003, 6435],
+    [0, 1, 10, 55, 220, 715, 2002, 5005, 11440],
+];
 
 /// A map of columns or rows that cuts line `at` of `lines` lines into `parts`. It sends each new line to the
 /// old line that it is a part of: new lines below `at` stay, those from `at` to `at + parts - 1` go to `at`,
@@ -89,5 +105,21 @@ impl LineMap {
         } else {
             old + 1
         }
+    }
+
+    /// Whether an old line is the one that is cut.
+    pub(crate) fn cuts(self, old: u8) -> bool
+        ensures { result ≡ nat_eq old self.at }
+    {
+        old == self.at
+    }
+
+    /// In how many ways so many points of the cut line go, in order, into its parts.
+    pub(crate) fn ways(self, points: usize) -> u64
+        requires { points ≤ 9 }
+        ensures value { result ≡ ways points self.parts }
+        ensures few { result < 65536 }
+    {
+        u64::from(WAYS[points][self.parts as usize])
     }
 }

@@ -18,7 +18,7 @@ fn may_follow(letter: u8, cell: Cell, next: u8, next_cell: Cell) -> bool
 }
 
 /// Whether the point at place `placed` may be in a cell, where the points before it are in `cells`.
-pub(crate) fn may_come(g: &Gridded, cells: &[Cell; 9], placed: usize, cell: Cell) -> bool
+fn may_come(g: &Gridded, cells: &[Cell; 9], placed: usize, cell: Cell) -> bool
     requires { placed < length g.now }
     ensures { result ≡ may_come (placed_points g.now cells.now placed) (record { letter = slice_index (letters_of g.now) placed; cell = cell }) }
 {
