@@ -23,12 +23,12 @@ use Rattle.coord_maps.specs.Laws.{CollapseHoldsPatterns}
 use Rattle.coord_maps.proofs.Memberships.{preimage_is_listed, listed_is_preimage}
 
 -- the letters of p in the cells of c
-abbrev lifted : List Point → List Point → List Point
+abbrev pub lifted : List Point → List Point → List Point
 lifted [] p = []
 lifted (x ∷ c) [] = []
 lifted (x ∷ c) (a ∷ p) = record { letter = a.letter; cell = x.cell } ∷ lifted c p
 
-abbrev fits : List Point → List Point → Bool
+abbrev pub fits : List Point → List Point → Bool
 fits = is_match letter_of same_cell
 
 stands_lifted : (f : Cell → Cell) (x a : Point) (u : Cell) (c p : List Point) → stands_as letter_of same_cell (moved f x) a (move_cells f c) p ≡ true → stands_as letter_of same_cell x (record { letter = a.letter; cell = u }) c (lifted c p) ≡ true
@@ -42,7 +42,7 @@ stands_lifted f x a u (y ∷ c) (b ∷ p) e =
 in_own_cell : (c : Cell) → ((c.x == c.x) && (c.y == c.y)) ≡ true
 in_own_cell c = both_true (c.x == c.x) (c.y == c.y) ((Decides-eqb c.x c.x).1 refl) ((Decides-eqb c.y c.y).1 refl)
 
-fits-lifted : (f : Cell → Cell) (c p : List Point) → fits (move_cells f c) p ≡ true → fits c (lifted c p) ≡ true
+pub fits-lifted : (f : Cell → Cell) (c p : List Point) → fits (move_cells f c) p ≡ true → fits c (lifted c p) ≡ true
 fits-lifted f [] [] e = refl
 fits-lifted f [] (b ∷ p) e = absurd cc
 fits-lifted f (x ∷ c) [] e = absurd cc
@@ -51,7 +51,7 @@ fits-lifted f (x ∷ c) (a ∷ p) e =
     let l = and_true (stands_as letter_of same_cell (moved f x) a (move_cells f c) p) (fits (move_cells f c) p) k.1 in
     both_true _ _ (in_own_cell x.cell) (both_true _ _ (stands_lifted f x a x.cell c p l.0) (fits-lifted f c p l.1))
 
-moved-lifted : (f : Cell → Cell) (c p : List Point) → fits (move_cells f c) p ≡ true → move_cells f (lifted c p) ≡ p
+pub moved-lifted : (f : Cell → Cell) (c p : List Point) → fits (move_cells f c) p ≡ true → move_cells f (lifted c p) ≡ p
 moved-lifted f [] [] e = refl
 moved-lifted f [] (b ∷ p) e = absurd cc
 moved-lifted f (x ∷ c) [] e = absurd cc
@@ -88,7 +88,7 @@ all_follow f x a (y ∷ c) (b ∷ p) e h =
     let l = and_true (may_follow x y) (list_all (λ z. may_follow x z) c) h in
     both_true _ _ (follows_alike x y a.letter b.letter k.0 l.0) (all_follow f x a c p k.1 l.1)
 
-consistent-lifted : (f : Cell → Cell) (c p : List Point) → fits (move_cells f c) p ≡ true → is_consistent c ≡ true → is_consistent (lifted c p) ≡ true
+pub consistent-lifted : (f : Cell → Cell) (c p : List Point) → fits (move_cells f c) p ≡ true → is_consistent c ≡ true → is_consistent (lifted c p) ≡ true
 consistent-lifted f [] p e h = refl
 consistent-lifted f (x ∷ c) [] e h = absurd cc
 consistent-lifted f (x ∷ c) (a ∷ p) e h =
@@ -102,18 +102,18 @@ all_in_part t none h = h
 all_in_part t (kept {part} {whole} x k) h = let m = and_true (t x) (list_all t whole) h in both_true _ _ m.0 (all_in_part t k m.1)
 all_in_part t (left_out {whole = whole} x k) h = all_in_part t k (and_true (t x) (list_all t whole) h).1
 
-consistent_part : {c g : List Point} → IsPart c g → is_consistent g ≡ true → is_consistent c ≡ true
+pub consistent_part : {c g : List Point} → IsPart c g → is_consistent g ≡ true → is_consistent c ≡ true
 consistent_part none h = h
 consistent_part (kept {part} {whole} x k) h = let m = and_true (list_all (λ y. may_follow x y) whole) (is_consistent whole) h in both_true _ _ (all_in_part (λ y. may_follow x y) k m.0) (consistent_part k m.1)
 consistent_part (left_out {whole = whole} x k) h = consistent_part k (and_true (list_all (λ y. may_follow x y) whole) (is_consistent whole) h).1
 
 -- ---- cells
-lifted_fits : (w h : ℕ) (c p : List Point) → fits_grid w h c ≡ true → fits_grid w h (lifted c p) ≡ true
+pub lifted_fits : (w h : ℕ) (c p : List Point) → fits_grid w h c ≡ true → fits_grid w h (lifted c p) ≡ true
 lifted_fits w h [] p e = refl
 lifted_fits w h (x ∷ c) [] e = refl
 lifted_fits w h (x ∷ c) (a ∷ p) e = let k = and_true (nat_lt x.cell.x w && nat_lt x.cell.y h) (fits_grid w h c) e in both_true _ _ k.0 (lifted_fits w h c p k.1)
 
-part_fits : (w h : ℕ) {c g : List Point} → IsPart c g → fits_grid w h g ≡ true → fits_grid w h c ≡ true
+pub part_fits : (w h : ℕ) {c g : List Point} → IsPart c g → fits_grid w h g ≡ true → fits_grid w h c ≡ true
 part_fits w h none e = e
 part_fits w h (kept {part} {whole} x k) e = let m = and_true (nat_lt x.cell.x w && nat_lt x.cell.y h) (fits_grid w h whole) e in both_true _ _ m.0 (part_fits w h k m.1)
 part_fits w h (left_out {whole = whole} x k) e = part_fits w h k (and_true (nat_lt x.cell.x w && nat_lt x.cell.y h) (fits_grid w h whole) e).1
@@ -152,7 +152,7 @@ same_cell_moved f x a e =
     let cells : x.cell ≡ a.cell = λ i. record { x = ex i; y = ey i } in
     both_true _ _ ((Decides-eqb (f x.cell).x (f a.cell).x).1 (ap (λ (c : Cell). (f c).x) cells)) ((Decides-eqb (f x.cell).y (f a.cell).y).1 (ap (λ (c : Cell). (f c).y) cells))
 
-fits_moved : (f : Cell → Cell) (c p : List Point) → fits c p ≡ true → fits (move_cells f c) (move_cells f p) ≡ true
+pub fits_moved : (f : Cell → Cell) (c p : List Point) → fits c p ≡ true → fits (move_cells f c) (move_cells f p) ≡ true
 fits_moved f [] [] e = refl
 fits_moved f [] (b ∷ p) e = absurd cc
 fits_moved f (x ∷ c) [] e = absurd cc

@@ -1,0 +1,9 @@
+pub mod Positions
+pub mod Thirds
+pub mod Splits
+pub mod Alone
+pub mod Marked
+pub mod Farthest
+pub mod Numbered
+pub mod Placed
+pub mod Carrying
