@@ -4,6 +4,7 @@ pub mod Permutations
 pub mod Holding
 pub mod Minimal
 pub mod Shorter
+pub mod LeastSoFar
 pub mod Small
 pub mod Pairs
 pub mod InGrid

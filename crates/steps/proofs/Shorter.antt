@@ -18,7 +18,7 @@ use Rattle.steps.proofs.ListTests.{at_each, list_any-none_passes}
 use Rattle.steps.proofs.Minimal.{EachGridded, other_is_shorter, shorter_and_held}
 
 -- a later pattern is at least as long
-as_long : (p q : List Point) → gridded_cmp p q ≡ Less → length p ≤ length q
+pub as_long : (p q : List Point) → gridded_cmp p q ≡ Less → length p ≤ length q
 as_long p q e = go (nat_cmp (length p) (length q)) refl
   where
     go : (o : Ordering) → nat_cmp (length p) (length q) ≡ o → length p ≤ length q
@@ -26,7 +26,7 @@ as_long p q e = go (nat_cmp (length p) (length q)) refl
     go Equal f = grind (arith, nat_tests)
     go Greater f = absurd cc
 
-in_all : {X : Type 0} (P : X → Type 0) {x : X} (xs : List X) → AllByRecursion P xs → IsIn x xs → P x
+pub in_all : {X : Type 0} (P : X → Type 0) {x : X} (xs : List X) → AllByRecursion P xs → IsIn x xs → P x
 in_all P [] h m = elim m [ ]
 in_all P (y ∷ xs) h here = h.0
 in_all P (y ∷ xs) h (later _ m) = in_all P xs h.1 m

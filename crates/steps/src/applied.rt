@@ -32,18 +32,31 @@ pub fn applies(step: Step, tiling: &Tiling) -> bool
 
 /// What a step that applies gives.
 #[tactic(auto, unfolding(crate::specs::Steps::step_applies, crate::specs::Steps::step_result))]
-fn result_of(alloc: Global, step: Step, tiling: &Tiling) -> Result<Tiling, AllocError>
-    requires { step_applies step tiling.now ≡ true }
-    ensures { IfOk result (λ left. left ≡ step_result step tiling.now) }
+fn result_of(alloc: Global, step: Step, tiling: Tiling) -> Result<Tiling, AllocError>
+    requires { step_applies step tiling ≡ true }
+    ensures { IfOk result (λ left. left ≡ step_result step tiling) }
 {
     match step {
         Step::Void => void_tiling(alloc),
         Step::Min => without_redundant(alloc, tiling),
-        Step::Clean(cell) => clean(alloc, tiling, cell),
+        Step::Clean(cell) => clean(alloc, &tiling, cell),
         Step::Lists => tidy_lists(alloc, tiling),
-        Step::Column(column) => without_line(alloc, tiling, Axis::Column, column),
-        Step::Row(row) => without_line(alloc, tiling, Axis::Row, row),
+        Step::Column(column) => without_line(alloc, &tiling, Axis::Column, column),
+        Step::Row(row) => without_line(alloc, &tiling, Axis::Row, row),
     }
+}
+
+/// The tiling after a step that is known to apply; nothing is tested again. The tiling is consumed either way, and
+/// it fails for want of memory alone (docs/RULES.md, "Reduction steps").
+pub fn follow(alloc: Global, step: Step, tiling: Tiling) -> Result<Tiling, AllocError>
+    requires { step_applies step tiling ≡ true }
+    ensures made { IfOk result (λ left. left ≡ step_result step tiling) }
+    ensures members { IfOk result (λ left. KeepsMembers (rename step) tiling left) }
+{
+    // What a tiling keeps, and the law that members rest on; neither computes anything.
+    let _ = tiling.width();
+    steps_keep_members();
+    result_of(alloc, step, tiling)
 }
 
 /// The tiling after a step, which is consumed either way. It is refused exactly where the step's condition
@@ -55,15 +68,8 @@ pub fn apply(alloc: Global, step: &Step, tiling: Tiling) -> Result<Tiling, StepF
     ensures refused { IfErr result (λ fault. IsRefused step.now tiling fault) }
     ensures members { IfOk result (λ left. KeepsMembers (rename step.now) tiling left) }
 {
-    let step = *step;
-    if !applies(step, &tiling) {
+    if !applies(*step, &tiling) {
         return Err(StepFault::NotApplicable);
     }
-    // What a tiling keeps, and the law that members rest on; neither computes anything.
-    let _ = tiling.width();
-    steps_keep_members();
-    match result_of(alloc, step, &tiling) {
-        Ok(left) => Ok(left),
-        Err(_) => Err(StepFault::Memory),
-    }
+    Ok(follow(alloc, *step, tiling)?)
 }

@@ -15,7 +15,7 @@ mod step;
 mod tests;
 mod void_step;
 
-pub use applied::{applies, apply};
+pub use applied::{applies, apply, follow};
 pub use fault::{ReplayFault, StepFault};
 pub use law::steps_keep_members;
 pub use replayed::replay;

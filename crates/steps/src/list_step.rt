@@ -102,12 +102,14 @@ fn tidied(
 
 /// The tiling with these lists.
 #[tactic(auto, using(crate::proofs::InGrid::tidied_in_grid))]
-pub(crate) fn tidy_lists(alloc: Global, tiling: &Tiling) -> Result<Tiling, AllocError>
-    ensures { IfOk result (λ tidy. tidy ≡ tidy_lists tiling.now) }
+pub(crate) fn tidy_lists(alloc: Global, tiling: Tiling) -> Result<Tiling, AllocError>
+    ensures { IfOk result (λ tidy. tidy ≡ tidy_lists tiling) }
 {
-    let obstructions = Vec::from_slice(alloc, tiling.obstructions())?;
-    let lists = tidied(alloc, tiling.obstructions(), tiling.requirements())?;
-    Tiling::in_grid(tiling.width(), tiling.height(), obstructions, lists)
+    let width = tiling.width();
+    let height = tiling.height();
+    let (obstructions, lists) = tiling.into_parts();
+    let tidy = tidied(alloc, &obstructions, &lists)?;
+    Tiling::in_grid(width, height, obstructions, tidy)
 }
 
 /// Whether the first two acts drop a member of a list: it holds an obstruction, or another member.

@@ -8,7 +8,6 @@ ghost use Rattle.tiling_core.specs.Tiles.{tiling_of, AreGridded};
 ghost use Rattle.tiling_core.specs.Patterns.{holds_another, minimal};
 
 use gridded::{Gridded, holds};
-use sequences::{Copied, Sequence};
 use std::alloc::{AllocError, Global};
 use tiling_core::Tiling;
 
@@ -67,24 +66,30 @@ pub(crate) fn minimal(alloc: Global, patterns: &[Gridded]) -> Result<Vec<Gridded
         .collect(alloc)
 }
 
-/// The obstructions that hold no other, in their order.
-fn minimal_obstructions(alloc: Global, tiling: &Tiling) -> Result<Vec<Gridded>, AllocError>
-    ensures { IfOk result (λ kept. kept.items ≡ minimal tiling.now.obstructions) }
+/// The patterns of an ascending list that hold no other of it, in their order. A pattern that holds another holds
+/// one that stays, which stands before it, so it is tested against those that stay alone.
+fn least(alloc: Global, patterns: &[Gridded]) -> Result<Vec<Gridded>, AllocError>
+    requires gridded { AreGridded patterns.now }
+    requires ascending { IsStrictlySortedBy gridded_cmp patterns.now }
+    ensures { IfOk result (λ kept. kept.items ≡ minimal patterns.now) }
 {
-    let patterns = tiling.obstructions();
-    patterns
-        .iter()
-        .copied()
-        .filter(|g| !holds_shorter(patterns, g))
-        .collect(alloc)
+    let mut kept = Vec::new(alloc);
+    for g in patterns {
+        if !holds_shorter(&kept, g) {
+            kept.push(*g)?;
+        }
+    }
+    Ok(kept)
 }
 
 /// The tiling without the obstructions that hold another.
 #[tactic(auto, using(crate::proofs::InGrid::minimal_in_grid))]
-pub(crate) fn without_redundant(alloc: Global, tiling: &Tiling) -> Result<Tiling, AllocError>
-    ensures { IfOk result (λ left. left ≡ tiling_of tiling.now.width tiling.now.height (minimal tiling.now.obstructions) tiling.now.requirements) }
+pub(crate) fn without_redundant(alloc: Global, tiling: Tiling) -> Result<Tiling, AllocError>
+    ensures { IfOk result (λ left. left ≡ tiling_of tiling.width tiling.height (minimal tiling.obstructions) tiling.requirements) }
 {
-    let obstructions = minimal_obstructions(alloc, tiling)?;
-    let lists = Sequence::copy_all(tiling.requirements(), alloc)?;
-    Tiling::in_grid(tiling.width(), tiling.height(), obstructions, lists)
+    let width = tiling.width();
+    let height = tiling.height();
+    let (obstructions, lists) = tiling.into_parts();
+    let kept = least(alloc, &obstructions)?;
+    Tiling::in_grid(width, height, kept, lists)
 }

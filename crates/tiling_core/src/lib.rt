@@ -9,6 +9,7 @@ mod made;
 mod measures;
 mod membership;
 mod outside;
+mod parts;
 #[cfg(test)]
 mod tests;
 mod tiling;
