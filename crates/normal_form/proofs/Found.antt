@@ -12,6 +12,14 @@ found_passes {X} p (y ∷ xs) x e = go (p y) refl (found_passes p xs x) e
     go true f ih g = let same : y ≡ x = cc in rw (← same) f
     go false f ih g = ih g
 
+pub found_is_in : {X : Type 0} (p : X → Bool) (xs : List X) (x : X) → find p xs ≡ Some x → IsIn x xs
+found_is_in p [] x e = absurd cc
+found_is_in {X} p (y ∷ xs) x e = go (p y) (found_is_in p xs x) e
+  where
+    go : (b : Bool) → (find p xs ≡ Some x → IsIn x xs) → cond b (Some y) (find p xs) ≡ Some x → IsIn x (y ∷ xs)
+    go true ih g = let same : x ≡ y = cc in rw same here
+    go false ih g = later y (ih g)
+
 pub none_found : {X : Type 0} (p : X → Bool) {x : X} {xs : List X} → find p xs ≡ None → IsIn x xs → p x ≡ false
 none_found p {x = x} e (here {xs = xs}) = go (p x) e
   where
@@ -24,6 +32,6 @@ none_found p {x = x} e (later {xs = xs} y m) = go (p y) (λ f. none_found p f m)
     go true ih f = absurd cc
     go false ih f = ih f
 
-pub nothing_to_find : {X : Type 0} (p : X → Bool) (xs : List X) → ((x : X) → p x ≡ false) → find p xs ≡ None
+pub nothing_to_find : {X : Type 0} (p : X → Bool) (xs : List X) → ((x : X) → IsIn x xs → p x ≡ false) → find p xs ≡ None
 nothing_to_find p [] k = refl
-nothing_to_find p (x ∷ xs) k = rw (k x) (nothing_to_find p xs k)
+nothing_to_find p (x ∷ xs) k = rw (k x here) (nothing_to_find p xs (λ y m. k y (later x m)))

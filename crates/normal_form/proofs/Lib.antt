@@ -5,3 +5,5 @@ pub mod Tracing
 pub mod Reached
 pub mod Firsts
 pub mod Tilings
+pub mod LinesAlone
+pub mod Knowing

@@ -7,7 +7,7 @@ use Rattle.steps.specs.declared.Step.{Step}
 use Rattle.steps.specs.Steps.{step_applies, step_result, rename}
 use Rattle.steps.specs.Traces.{first_step, replay, IsTrace, IsNormal}
 use Rattle.steps.specs.Traces.IsTrace.{ended, then_step}
-use Rattle.steps.specs.Kept.{StepsKeepMembers, KeepsMembers, rename_all}
+use Rattle.steps.specs.Kept.{KeepsMembers, rename_all}
 use Rattle.steps.proofs.Replays.{one_after, keeps_itself}
 use Rattle.normal_form.specs.Measure.{size}
 use Rattle.normal_form.proofs.Shrinking.{steps_shrink}
@@ -41,11 +41,11 @@ pub record IsReached (t : Tiles) (steps : List Step) (u : Tiles) : Type 0 where
 pub reached_itself : (t : Tiles) → IsReached t [] t
 reached_itself t = record { traced = λ rest m. m; replayed = refl; members = keeps_itself t }
 
-pub reached_next : StepsKeepMembers → (t : Tiles) (steps : List Step) (u v : Tiles) (s : Step) → IsTiling u → IsReached t steps u → first_step u ≡ Some s → v ≡ step_result s u → IsReached t (steps ++ s ∷ []) v
-reached_next keep t steps u v s k r e same = rw same (record {
+pub reached_next : (t : Tiles) (steps : List Step) (u v : Tiles) (s : Step) → IsReached t steps u → first_step u ≡ Some s → KeepsMembers (rename s) u v → v ≡ step_result s u → IsReached t (steps ++ s ∷ []) v
+reached_next t steps u v s r e kept same = rw same (record {
   traced = λ rest m. subst (λ (all : List Step). IsTrace t all) (sym (append_assoc steps (s ∷ []) rest)) (r.traced (s ∷ rest) (then_step e m));
   replayed = replay_then t steps u s r.replayed a;
-  members = subst (λ (f : List Point → List Point). KeepsMembers f t (step_result s u)) (λ i. λ g. rename_then steps s g i) (one_after (rename_all steps) (rename s) t u (step_result s u) r.members (keep s u k a));
+  members = subst (λ (f : List Point → List Point). KeepsMembers f t (step_result s u)) (λ i. λ g. rename_then steps s g i) (one_after (rename_all steps) (rename s) t u (step_result s u) r.members (subst (λ (w : Tiles). KeepsMembers (rename s) u w) same kept));
 })
   where
     a : step_applies s u ≡ true

@@ -95,7 +95,7 @@ unfolding trace
 total t k = total_within (size t) t (ascends_all t k) (omega arith)
 
 -- ---- each step that applies is tried
-clean_in_grid : (c : Cell) (t : Tiles) → IsTiling t → is_isolated t c ≡ true → IsIn c (cells_in t.width t.height)
+pub clean_in_grid : (c : Cell) (t : Tiles) → IsTiling t → is_isolated t c ≡ true → IsIn c (cells_in t.width t.height)
 clean_in_grid c t k e =
     let place = forbidden t (rising c c) (and_true (forbids t (rising c c)) _ e).0 in
     let inside : fits_grid t.width t.height (rising c c) ≡ true = at_each (λ g. fits_grid t.width t.height g ≡ true) k.obstructions_in place in
@@ -138,4 +138,4 @@ none_applies t k e s = go (step_applies s t) refl
     go false f = f
 
 pub normal_where_none : NormalWhereNoneIsFirst
-normal_where_none t k = (none_applies t k, λ n. nothing_to_find (λ r. step_applies r t) (steps_of t) n)
+normal_where_none t k = (none_applies t k, λ n. nothing_to_find (λ r. step_applies r t) (steps_of t) (λ s m. n s))

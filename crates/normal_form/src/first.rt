@@ -5,8 +5,11 @@ ghost use Rattle.gridded.specs.Grids.{cells_in};
 ghost use Rattle.tiling_core.specs.Tiles.{IsTiling};
 ghost use Rattle.steps.specs.Steps.{step_applies};
 ghost use Rattle.steps.specs.Traces.{first_step};
-ghost use Rattle.steps.specs.declared.Step.TheVariants.{Clean, Column, Row};
+ghost use Rattle.steps.specs.declared.Step.TheVariants.{Min, Clean, Column, Row};
+ghost use Rattle.std.specs.Option.{option_or};
+ghost use Rattle.normal_form.specs.Known.{IsKnown};
 
+use crate::known::Known;
 use gridded::Cell;
 use steps::{Step, applies};
 use tiling_core::Tiling;
@@ -50,19 +53,37 @@ fn first_row(tiling: &Tiling) -> Option<Step>
         .find(|step| applies(*step, tiling))
 }
 
-/// The first step that applies, in the order Void, Min, Clean by cells, Lists, columns from 0 on, rows from 0
-/// on. Takes no memory.
-#[tactic(auto, using(crate::proofs::Firsts::by_kind))]
-pub(crate) fn first_step(tiling: &Tiling) -> Option<Step>
-    ensures value { result ≡ first_step tiling.now }
-    ensures kept { IsTiling tiling.now }
+/// The first column that can go, else the first row, as a step.
+fn first_line(tiling: &Tiling) -> Option<Step>
+    ensures { result ≡ option_or (find (λ s. step_applies s tiling.now) (map (λ x. Column x) (range_with_len 0 tiling.now.width))) (find (λ s. step_applies s tiling.now) (map (λ y. Row y) (range_with_len 0 tiling.now.height))) }
 {
-    // What a tiling keeps is known once it is read.
-    let _width = tiling.width();
+    if let Some(step) = first_column(tiling) {
+        return Some(step);
+    }
+    first_row(tiling)
+}
+
+/// Whether Min applies, looked at only where it isn't known.
+fn can_lose_obstructions(tiling: &Tiling, known: Known) -> bool
+    requires { IsKnown known tiling.now }
+    ensures { result ≡ step_applies Min tiling.now }
+{
+    match known {
+        Known::Nothing => applies(Step::Min, tiling),
+        Known::Minimal | Known::LinesAlone => false,
+    }
+}
+
+/// The first step that applies, of all kinds.
+#[tactic(auto, using(crate::proofs::Firsts::by_kind))]
+fn first_of_all(tiling: &Tiling, known: Known) -> Option<Step>
+    requires { IsKnown known tiling.now }
+    ensures { result ≡ first_step tiling.now }
+{
     if applies(Step::Void, tiling) {
         return Some(Step::Void);
     }
-    if applies(Step::Min, tiling) {
+    if can_lose_obstructions(tiling, known) {
         return Some(Step::Min);
     }
     if let Some(step) = first_cell(tiling) {
@@ -71,8 +92,21 @@ pub(crate) fn first_step(tiling: &Tiling) -> Option<Step>
     if applies(Step::Lists, tiling) {
         return Some(Step::Lists);
     }
-    if let Some(step) = first_column(tiling) {
-        return Some(step);
+    first_line(tiling)
+}
+
+/// The first step that applies, in the order Void, Min, Clean by cells, Lists, columns from 0 on, rows from 0
+/// on. What is known not to apply isn't tested. Takes no memory.
+#[tactic(auto, using(crate::proofs::Knowing::only_lines))]
+pub(crate) fn first_step(tiling: &Tiling, known: Known) -> Option<Step>
+    requires { IsKnown known tiling.now }
+    ensures value { result ≡ first_step tiling.now }
+    ensures kept { IsTiling tiling.now }
+{
+    // What a tiling keeps is known once it is read.
+    let _width = tiling.width();
+    match known {
+        Known::LinesAlone => first_line(tiling),
+        Known::Nothing | Known::Minimal => first_of_all(tiling, known),
     }
-    first_row(tiling)
 }

@@ -3,8 +3,9 @@ ghost use Rattle.steps.specs.Traces.{IsTrace, IsNormal, replay};
 ghost use Rattle.steps.specs.Kept.{KeepsMembers, rename_all};
 
 use crate::first::first_step;
+use crate::known::{Known, known_after};
 use std::alloc::{AllocError, Global};
-use steps::{Step, apply, steps_keep_members};
+use steps::{Step, follow};
 use tiling_core::Tiling;
 
 /// The normal form of a tiling, and its trace: again and again the first step that applies, in the order Void,
@@ -17,14 +18,12 @@ pub fn normalise(alloc: Global, tiling: Tiling) -> Result<(Tiling, Vec<Step>), A
     ensures normal { IfOk result (λ made. IsNormal made.0) }
     ensures members { IfOk result (λ made. KeepsMembers (rename_all made.1.items) tiling made.0) }
 {
-    steps_keep_members();
     let mut current = tiling;
     let mut trace = Vec::new(alloc);
-    while let Some(step) = first_step(&current) {
-        current = match apply(alloc, &step, current) {
-            Ok(next) => next,
-            Err(_) => return Err(AllocError),
-        };
+    let mut known = Known::Nothing;
+    while let Some(step) = first_step(&current, known) {
+        current = follow(alloc, step, current)?;
+        known = known_after(step);
         trace.push(step)?;
     }
     Ok((current, trace))

@@ -3,6 +3,7 @@
 
 mod first;
 mod form;
+mod known;
 mod law;
 
 pub use form::normalise;

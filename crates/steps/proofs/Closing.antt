@@ -72,7 +72,7 @@ open_cell a i c = with_line a (opened i (line_of a c)) c
 abbrev pub open_up : Axis → ℕ → List Point → List Point
 open_up a i g = in_moved_cells (open_cell a i) g
 
-close_open_cell : (a : Axis) (i : ℕ) (c : Cell) → close_cell a i (open_cell a i c) ≡ c
+pub close_open_cell : (a : Axis) (i : ℕ) (c : Cell) → close_cell a i (open_cell a i c) ≡ c
 close_open_cell Column i c = let e = closed_opened i c.x in λ j. record { x = e j; y = c.y }
 close_open_cell Row i c = let e = closed_opened i c.y in λ j. record { x = c.x; y = e j }
 
@@ -80,7 +80,7 @@ open_close_cell : (a : Axis) (i : ℕ) (c : Cell) → is_off_line a i c ≡ true
 open_close_cell Column i c h = let e = opened_closed i c.x h in λ j. record { x = e j; y = c.y }
 open_close_cell Row i c h = let e = opened_closed i c.y h in λ j. record { x = c.x; y = e j }
 
-open_off : (a : Axis) (i : ℕ) (c : Cell) → is_off_line a i (open_cell a i c) ≡ true
+pub open_off : (a : Axis) (i : ℕ) (c : Cell) → is_off_line a i (open_cell a i c) ≡ true
 open_off Column i c = opened_off i c.x
 open_off Row i c = opened_off i c.y
 

@@ -12,6 +12,7 @@ pub mod Members
 pub mod Implied
 pub mod Tidied
 pub mod Moved
+pub mod MovedOrder
 pub mod Closing
 pub mod Lines
 pub mod PutBack

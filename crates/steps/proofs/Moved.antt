@@ -14,7 +14,7 @@ use Rattle.gridded.specs.Grids.{Point, same_cell, letter_of, may_follow, is_cons
 use Rattle.gridded.specs.Orders.{letters_of}
 use Rattle.steps.specs.Patterns.{in_moved_cells}
 
-eq_by_lt : (a b : ℕ) → (a == b) ≡ (not (nat_lt a b) && not (nat_lt b a))
+pub eq_by_lt : (a b : ℕ) → (a == b) ≡ (not (nat_lt a b) && not (nat_lt b a))
 eq_by_lt a b = grind (arith, nat_tests)
 
 le_by_lt : (a b : ℕ) → nat_le a b ≡ not (nat_lt b a)

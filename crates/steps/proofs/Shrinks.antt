@@ -172,7 +172,7 @@ module _ (obstructions : List (List Point)) where
       rw (remaining_same lists k.0) (filter-all (λ others. not (is_implied lists others)) lists (all_pass (λ others. not (is_implied lists others)) lists (λ a m. not_false (is_implied lists a) (none_passes (is_implied lists) lists k.1 m))))
 
 -- ---- the step
-ascending_list : (patterns : List (List Point)) → IsStrictlySortedBy gridded_cmp patterns → in_order gridded_cmp patterns ≡ patterns
+pub ascending_list : (patterns : List (List Point)) → IsStrictlySortedBy gridded_cmp patterns → in_order gridded_cmp patterns ≡ patterns
 ascending_list patterns s = sym (in_order-is gridded_cmp gridded_total gridded_exact patterns patterns (record { ascends = s; keeps = λ x k. k; adds_none = λ x k. k }))
 
 each_in_order : (lists : List (List (List Point))) → ((a : List (List Point)) → IsIn a lists → IsStrictlySortedBy gridded_cmp a) → map (λ patterns. in_order gridded_cmp patterns) lists ≡ lists

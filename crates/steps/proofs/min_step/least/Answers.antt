@@ -17,8 +17,8 @@ loop-g-preserved c =
     let g = c.g-item.result in
     let held = rw (c.deref.ensures.value, c.loop-g.invariant) at c.holds_shorter.ensures in
     elim c.if-not-holds_shorter.branch [
-      then-not-holds_shorter+in_ok-push w ↦ rw (w.kept-is, w.in_ok-push.ensures.items, c.loop-g.invariant)
-      (stays patterns c.requires.gridded c.requires.ascending c.loop-g.g-index g c.loop-g-test.true (sym c.g-item.is) (sym held ∙ w.if-not-holds_shorter.true))
-    | else-not-holds_shorter w ↦ rw (w.kept-is, c.loop-g.invariant)
-      (goes patterns c.requires.gridded c.requires.ascending c.loop-g.g-index g c.loop-g-test.true (sym c.g-item.is) (sym held ∙ w.if-not-holds_shorter.false))
+      | then-not-holds_shorter+in_ok-push w ↦ rw (w.kept-is, w.in_ok-push.ensures.items, c.loop-g.invariant)
+          (stays patterns c.requires.gridded c.requires.ascending c.loop-g.g-index g c.loop-g-test.true (sym c.g-item.is) (sym held ∙ w.if-not-holds_shorter.true))
+      | else-not-holds_shorter w ↦ rw (w.kept-is, c.loop-g.invariant)
+          (goes patterns c.requires.gridded c.requires.ascending c.loop-g.g-index g c.loop-g-test.true (sym c.g-item.is) (sym held ∙ w.if-not-holds_shorter.false))
     ]
