@@ -32,6 +32,9 @@ none_found p {x = x} e (later {xs = xs} y m) = go (p y) (λ f. none_found p f m)
     go true ih f = absurd cc
     go false ih f = ih f
 
-pub nothing_to_find : {X : Type 0} (p : X → Bool) (xs : List X) → ((x : X) → IsIn x xs → p x ≡ false) → find p xs ≡ None
-nothing_to_find p [] k = refl
-nothing_to_find p (x ∷ xs) k = rw (k x here) (nothing_to_find p xs (λ y m. k y (later x m)))
+pub none_to_find : {X : Type 0} (p : X → Bool) (xs : List X) → ((x : X) → IsIn x xs → p x ≡ false) → find p xs ≡ None
+none_to_find p [] k = refl
+none_to_find p (x ∷ xs) k = rw (k x here) (none_to_find p xs (λ y m. k y (later x m)))
+
+pub nothing_to_find : {X : Type 0} (p : X → Bool) (xs : List X) → ((x : X) → p x ≡ false) → find p xs ≡ None
+nothing_to_find p xs k = none_to_find p xs (λ x m. k x)

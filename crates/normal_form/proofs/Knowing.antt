@@ -20,7 +20,7 @@ use Rattle.steps.specs.Traces.{first_step}
 use Rattle.steps.proofs.ListTests.{some_passes, which_passes, none_passes}
 use Rattle.steps.proofs.Shrinks.{ascending_list}
 use Rattle.normal_form.specs.Known.{OnlyLines, IsKnown, known_after}
-use Rattle.normal_form.proofs.Found.{found_is_in, none_found, nothing_to_find}
+use Rattle.normal_form.proofs.Found.{found_is_in, none_found, none_to_find}
 use Rattle.normal_form.proofs.Firsts.{by_kind}
 use Rattle.normal_form.proofs.Tracing.{first_applies, cleanings, columns, rows, clean_in_grid}
 use Rattle.normal_form.proofs.Tilings.{steps_keep_tilings}
@@ -105,7 +105,7 @@ minimal_before_lists t e =
 -- where no other step applies, a column or a row comes first
 pub only_lines : (t : Tiles) → OnlyLines t → first_step t ≡ option_or (find (λ s. step_applies s t) (columns t)) (find (λ s. step_applies s t) (rows t))
 only_lines t o =
-    by_kind t ∙ rw (o.void, o.min, nothing_to_find (λ s. step_applies s t) (cleanings t) (λ s m. none s (from_IsIn-map (λ c. Clean c) (cells_in t.width t.height) m)), o.lists) refl
+    by_kind t ∙ rw (o.void, o.min, none_to_find (λ s. step_applies s t) (cleanings t) (λ s m. none s (from_IsIn-map (λ c. Clean c) (cells_in t.width t.height) m)), o.lists) refl
   where
     none : (s : Step) → (c : Cell) × IsIn c (cells_in t.width t.height) × (s ≡ Clean c) → step_applies s t ≡ false
     none s w = rw w.2 (o.clean w.0)

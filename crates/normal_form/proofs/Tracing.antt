@@ -138,4 +138,4 @@ none_applies t k e s = go (step_applies s t) refl
     go false f = f
 
 pub normal_where_none : NormalWhereNoneIsFirst
-normal_where_none t k = (none_applies t k, λ n. nothing_to_find (λ r. step_applies r t) (steps_of t) (λ s m. n s))
+normal_where_none t k = (none_applies t k, λ n. nothing_to_find (λ r. step_applies r t) (steps_of t) n)
