@@ -7,7 +7,7 @@ use Rattle.patterns.specs.Parts.{IsIn}
 use Rattle.patterns.specs.Parts.IsIn.{here, later}
 use Rattle.css_domain.specs.Shapes.{combine}
 use Rattle.css_domain.specs.Meanings.{Meaning}
-use Rattle.css_domain.specs.Entries.{Entry, IsNamed, IsGoodEntry, AreCounts, NoneOfLength0, class_counts, CountsAreDetermined, ClassCountsCombine}
+use Rattle.css_domain.specs.Entries.{Entry, IsNamed, IsLinked, AllHold, AreCounts, NoneOfLength0, class_counts, CountsAreDetermined, ClassCountsCombine}
 use Rattle.css_domain.proofs.Ways.{SlotsAgree, combine_agrees, less_or_whole}
 
 -- what stands at a place is in the list
@@ -26,7 +26,7 @@ at_place [] i h = absurd (omega (arith, h))
 at_place (x ∷ xs) zero h = (x, refl)
 at_place (x ∷ xs) (suc i) h = at_place xs i (omega (arith, h))
 
-module _ {C R : Type 0} (D : Meaning C R) (entries : List (Entry C R)) (good : (e : Entry C R) → IsIn e entries → IsGoodEntry D entries e) where
+module _ {C R : Type 0} (D : Meaning C R) (entries : List (Entry C R)) (linked : (e : Entry C R) → IsIn e entries → IsLinked D entries e) where
   -- the flag of a slot is that of the entry that is named
   pub flag_of : (e : Entry C R) (slot : ℕ) (b : Bool) (n : IsNamed D entries e slot) → slice_get (map D.positive (D.children e.rule)) slot ≡ Some b → b ≡ true → IsTrue (D.positive n.named.class)
   flag_of e slot b n h t =
@@ -39,7 +39,7 @@ module _ {C R : Type 0} (D : Meaning C R) (entries : List (Entry C R)) (good : (
     pub slots_agree : (n : ℕ) (e : Entry C R) → IsIn e entries → ((m i : ℕ) (d : Entry C R) → slice_get entries i ≡ Some d → m < n → f i m ≡ g i m) → ((i : ℕ) (d : Entry C R) → slice_get entries i ≡ Some d → d.rank < e.rank → f i n ≡ g i n) → SlotsAgree f g n (D.shape e.rule) e.children (map D.positive (D.children e.rule))
     slots_agree n e there shorter lower slot k b at flag =
         let p = get_index e.children slot k at in
-        let named = (good e there).child slot p.1 in
+        let named = (linked e there).child slot p.1 in
         let place : slice_get entries k ≡ Some named.named = subst (λ x. slice_get entries x ≡ Some named.named) p.0 named.there in
         record {
           shorter = λ m small. shorter m k named.named place small;
@@ -54,7 +54,7 @@ module _ {C R : Type 0} (D : Meaning C R) (entries : List (Entry C R)) (good : (
       below_rank n shorter (suc r) i e at small =
           let there = IsIn-slice_get entries i e at in
           let agree = slots_agree n e there shorter (λ j d h lower. below_rank n shorter r j d h (omega (arith, small, lower))) in
-          let as_many : length e.children ≡ length (map D.positive (D.children e.rule)) = (good e there).as_many ∙ sym (length-map (D.children e.rule) D.positive) in
+          let as_many : length e.children ≡ length (map D.positive (D.children e.rule)) = (linked e there).as_many ∙ sym (length-map (D.children e.rule) D.positive) in
           one i n e at ∙ combine_agrees f g n (D.shape e.rule) e.children (map D.positive (D.children e.rule)) as_many agree ∙ sym (other i n e at)
 
       below_length : (n m i : ℕ) (e : Entry C R) → slice_get entries i ≡ Some e → m < n → f i m ≡ g i m
@@ -67,7 +67,7 @@ module _ {C R : Type 0} (D : Meaning C R) (entries : List (Entry C R)) (good : (
       same_counts i n small = let e = at_place entries i small in below_length (suc n) n i e.0 e.1 (omega arith)
 
   -- ---- the counts of the classes
-  module _ (combined : (r : R) → D.holds r → (n : ℕ) → D.count (D.parent r) n ≡ combine (D.shape r) (map D.count (D.children r)) n) (none : (c : C) → D.positive c ≡ true → D.count c 0 ≡ 0) where
+  module _ (hold : AllHold D entries) (combined : (r : R) → D.holds r → (n : ℕ) → D.count (D.parent r) n ≡ combine (D.shape r) (map D.count (D.children r)) n) (none : (c : C) → D.positive c ≡ true → D.count c 0 ≡ 0) where
     same_functions : (ks : List ℕ) (cs : List C) → length ks ≡ length cs → ((slot : ℕ) → slot < length ks → (c : C) × (slice_get cs slot ≡ Some c) × (class_counts D entries (slice_index ks slot) ≡ D.count c)) → map (class_counts D entries) ks ≡ map D.count cs
     same_functions [] [] l h = refl
     same_functions [] (c ∷ cs) l h = absurd (omega (arith, l))
@@ -80,10 +80,11 @@ module _ {C R : Type 0} (D : Meaning C R) (entries : List (Entry C R)) (good : (
 
     class_counts_combine : AreCounts D entries (class_counts D entries)
     class_counts_combine i n e at =
-        let ok = good e (IsIn-slice_get entries i e at) in
+        let there = IsIn-slice_get entries i e at in
+        let ok = linked e there in
         let same : map (class_counts D entries) e.children ≡ map D.count (D.children e.rule) = same_functions e.children (D.children e.rule) ok.as_many (λ slot small. let k = ok.child slot small in (k.named.class, k.class, rw k.there refl)) in
         let this : class_counts D entries i n ≡ D.count e.class n = rw at refl in
-        this ∙ rw (same, sym ok.own) (combined e.rule ok.holds n)
+        this ∙ rw (same, sym ok.own) (combined e.rule (hold e there) n)
 
     class_counts_none : NoneOfLength0 D entries (class_counts D entries)
     class_counts_none i e at t = let this : class_counts D entries i 0 ≡ D.count e.class 0 = rw at refl in this ∙ none e.class t
@@ -92,7 +93,7 @@ module _ {C R : Type 0} (D : Meaning C R) (entries : List (Entry C R)) (good : (
     class_counts_are_counts = (class_counts_combine, class_counts_none)
 
 pub counts_are_determined : {C R : Type 0} (D : Meaning C R) → CountsAreDetermined D
-counts_are_determined D entries c v one other a b d e i n h = same_counts D entries v.good one other b e a d i n h
+counts_are_determined D entries spec one other a b d e i n h = same_counts D entries spec.linked one other b e a d i n h
 
 pub class_counts_combine_in : {C R : Type 0} (D : Meaning C R) → ((r : R) → D.holds r → (n : ℕ) → D.count (D.parent r) n ≡ combine (D.shape r) (map D.count (D.children r)) n) → ((c : C) → D.positive c ≡ true → D.count c 0 ≡ 0) → ClassCountsCombine D
-class_counts_combine_in D combined none entries c v = class_counts_are_counts D entries v.good combined none
+class_counts_combine_in D combined none entries spec hold = class_counts_are_counts D entries spec.linked hold combined none

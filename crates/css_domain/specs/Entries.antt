@@ -33,9 +33,8 @@ module _ {C R : Type 0} (D : Meaning C R) where
     pub class : slice_get (D.children e.rule) slot ≡ Some named.class
     pub rank : IsTrue (can_keep_length e.rule slot) → named.rank < e.rank
 
-  -- the entry says truly how its class comes from others
-  pub record IsGoodEntry (entries : List (Entry C R)) (e : Entry C R) : Type 0 where
-    pub holds : D.holds e.rule
+  -- the rule makes the entry's class, and an entry is named for each of the rule's children
+  pub record IsLinked (entries : List (Entry C R)) (e : Entry C R) : Type 0 where
     pub own : D.parent e.rule ≡ e.class
     pub as_many : length e.children ≡ length (D.children e.rule)
     pub child : (slot : ℕ) → slot < length e.children → IsNamed entries e slot
@@ -48,14 +47,24 @@ module _ {C R : Type 0} (D : Meaning C R) where
     pub there : slice_get entries j ≡ Some by
     pub names : IsIn i by.children
 
-  -- a specification of the class c
+  -- the entries are a specification, whether or not their rules hold: there is one at least, their classes are distinct, each is linked, and each but the first is called
+  pub record IsSpec (entries : List (Entry C R)) : Type 0 where
+    pub some : 0 < length entries
+    pub distinct : NoRepeats (map (λ e. e.class) entries)
+    pub linked : (e : Entry C R) → IsIn e entries → IsLinked entries e
+    pub called : (i : ℕ) → 0 < i → i < length entries → IsCalled entries i
+
+  -- the rules of all entries hold
+  abbrev pub AllHold : List (Entry C R) → Type 0
+  AllHold entries = (e : Entry C R) → IsIn e entries → D.holds e.rule
+
+  -- a specification of the class c, whose rules hold
   pub record ValidSpec (entries : List (Entry C R)) (c : C) : Type 0 where
+    pub spec : IsSpec entries
+    pub hold : AllHold entries
     pub first : Entry C R
     pub starts : slice_get entries 0 ≡ Some first
     pub root : first.class ≡ c
-    pub distinct : NoRepeats (map (λ e. e.class) entries)
-    pub good : (e : Entry C R) → IsIn e entries → IsGoodEntry entries e
-    pub called : (i : ℕ) → 0 < i → i < length entries → IsCalled entries i
 
   -- the entry has the class's pick and rank, and its children by their places in the order
   pub record IsPickOf (l : Books C R) (K : ℕ → Bool) (order : List ℕ) (c : ℕ) (e : Entry C R) : Type 0 where
@@ -94,10 +103,10 @@ module _ {C R : Type 0} (D : Meaning C R) where
   abbrev pub class_counts : List (Entry C R) → ℕ → ℕ → ℕ
   class_counts entries i = count_at (slice_get entries i)
 
-  -- two families of numbers that both combine over the entries of a specification are the same
+  -- two families of numbers that both combine over the entries of a specification are the same, whether or not its rules hold
   abbrev pub CountsAreDetermined : Type 0
-  CountsAreDetermined = (entries : List (Entry C R)) (c : C) → ValidSpec entries c → (one other : ℕ → ℕ → ℕ) → AreCounts entries one → NoneOfLength0 entries one → AreCounts entries other → NoneOfLength0 entries other → (i n : ℕ) → i < length entries → one i n ≡ other i n
+  CountsAreDetermined = (entries : List (Entry C R)) → IsSpec entries → (one other : ℕ → ℕ → ℕ) → AreCounts entries one → NoneOfLength0 entries one → AreCounts entries other → NoneOfLength0 entries other → (i n : ℕ) → i < length entries → one i n ≡ other i n
 
-  -- the counts of the entries' classes combine over them
+  -- the counts of the entries' classes combine over a specification whose rules hold
   abbrev pub ClassCountsCombine : Type 0
-  ClassCountsCombine = (entries : List (Entry C R)) (c : C) → ValidSpec entries c → AreCounts entries (class_counts entries) × NoneOfLength0 entries (class_counts entries)
+  ClassCountsCombine = (entries : List (Entry C R)) → IsSpec entries → AllHold entries → AreCounts entries (class_counts entries) × NoneOfLength0 entries (class_counts entries)

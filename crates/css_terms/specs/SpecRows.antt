@@ -2,7 +2,7 @@
 use Rattle.std.specs.Prelude.{◌≡◌, ℕ, List, map, zip, slice_get, Some}
 use Rattle.patterns.specs.Occurs.{avoiders}
 use Rattle.css_domain.specs.Meanings.{Meaning}
-use Rattle.css_domain.specs.Entries.{Entry, ValidSpec, class_counts}
+use Rattle.css_domain.specs.Entries.{Entry, IsSpec, AllHold, class_counts}
 use Rattle.css_terms.specs.declared.rows.Row.{Row}
 use Rattle.css_terms.specs.declared.term.Term.TheVariants.{Exact}
 use Rattle.css_terms.specs.Rows.{AreGoodRows, AreRowCounts}
@@ -16,13 +16,13 @@ module _ {C R : Type 0} (D : Meaning C R) where
   abbrev pub rows_of : List (Entry C R) → List Row
   rows_of entries = map row_of entries
 
-  -- the rows of a valid specification can be evaluated, and the counts of its classes combine over them
+  -- the rows of a specification whose rules hold can be evaluated, and the counts of its classes combine over them
   pub record AreSpecRows (entries : List (Entry C R)) : Type 0 where
     pub good : AreGoodRows (rows_of entries)
     pub counts : AreRowCounts (rows_of entries) (class_counts D entries)
 
   abbrev pub SpecsHaveRows : Type 0
-  SpecsHaveRows = (entries : List (Entry C R)) (c : C) → ValidSpec D entries c → AreSpecRows entries
+  SpecsHaveRows = (entries : List (Entry C R)) → IsSpec D entries → AllHold D entries → AreSpecRows entries
 
 -- an exact term is the number of avoiders of its length
 abbrev pub ExactTermsAreAvoiders : Type 0
