@@ -1,0 +1,18 @@
+-- The rounds as far as one adds none, or all that there can be.
+use Rattle.std.proofs.Common.{◌≡◌, arith, subst, length, ap, ◌∙◌}
+use Rattle.css_prune.specs.Pruning.{kept}
+use Rattle.css_prune.specs.Marks.{AreAfter}
+use Rattle.css_prune.proofs.Steps.{early_end, whole_end, written_back}
+use Rattle.css_prune.proofs.round.marks_of.Goals as goal
+
+pub returns-then-not-run_round-clause-are : goal.returns-then-not-run_round-clause-are
+returns-then-not-run_round-clause-are c =
+    let ranks = written_back c.loop-done.ranks.len c.run_round.new.ranks c.loop-done.ranks.items c.loop-done.ranks.ok.0 (c.run_round.auto.ranks ∙ ap length c.deref_mut.ensures.value) in
+    let picks = written_back c.loop-done.picks.len c.run_round.new.picks c.loop-done.picks.items c.loop-done.picks.ok.0 (c.run_round.auto.picks ∙ ap length c.deref_mut-in-loop-done.ensures.value) in
+    rw (ranks, picks)
+    (early_end (kept c.args.keep.now) c.args.records.now c.loop-done.done c.loop-done.ranks.items c.loop-done.picks.items c.run_round.new.ranks c.run_round.new.picks (omega (arith, c.loop-done-test.true)) c.loop-done.invariant.marks c.run_round.ensures.after (c.run_round.ensures.none c.if-not-run_round.true ∙ c.deref_mut.ensures.value))
+
+pub returns-clause-are : goal.returns-clause-are
+returns-clause-are c =
+    let e : c.loop-done.done ≡ length c.args.records.now = omega (arith, c.loop-done-test.false, c.loop-done.auto.done-end) in
+    whole_end (kept c.args.keep.now) c.args.records.now c.loop-done.ranks.items c.loop-done.picks.items (subst (λ n. AreAfter (kept c.args.keep.now) c.args.records.now n c.loop-done.ranks.items c.loop-done.picks.items) e c.loop-done.invariant.marks)
