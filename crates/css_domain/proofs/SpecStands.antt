@@ -57,8 +57,8 @@ module _ {C R : Type 0} (D : Meaning C R) (own : (c : C) → D.same c c ≡ true
 
     pub born : (i : ℕ) (e : Entry C R) → 0 < i → slice_get entries i ≡ Some e → IsBorn i e
     born i e some at =
-        let called = valid.called i some (slice_get_within entries i e at) in
-        let good = valid.good called.by (IsIn-slice_get entries called.j called.by called.there) in
+        let called = valid.spec.called i some (slice_get_within entries i e at) in
+        let good = valid.spec.linked called.by (IsIn-slice_get entries called.j called.by called.there) in
         let slot = place_of called.by.children i called.names in
         let named = good.child slot.0 (slice_get_within called.by.children slot.0 i slot.1) in
         let place : slice_get entries i ≡ Some named.named = ap (slice_get entries) (sym (index_is called.by.children slot.0 i slot.1)) ∙ named.there in
@@ -97,11 +97,11 @@ module _ {C R : Type 0} (D : Meaning C R) (own : (c : C) → D.same c c ≡ true
       distinct : NoRepeats (map (λ (t : Ranked). t.class) triples)
       distinct =
           rw (map-map (λ (t : Ranked). t.class) triple entries)
-          (distinct_by (λ (e : Entry C R). number e.class) (λ (e : Entry C R). e.class) entries (λ d e i j h. same_number d.class e.class (class_there d i) (class_there e j) h) valid.distinct)
+          (distinct_by (λ (e : Entry C R). number e.class) (λ (e : Entry C R). e.class) entries (λ d e i j h. same_number d.class e.class (class_there d i) (class_there e j) h) valid.spec.distinct)
 
       rests : (e : Entry C R) → IsIn e entries → RestsOn triples (triple e)
       rests e h =
-          let good = valid.good e h in
+          let good = valid.spec.linked e h in
           record {
             own = ap number good.own;
             child = λ slot small.

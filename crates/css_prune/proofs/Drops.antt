@@ -7,7 +7,8 @@ use Rattle.patterns.proofs.Booleans.{and_true, both_true}
 use Rattle.css_domain.specs.declared.record.Record.{Record}
 use Rattle.css_domain.specs.Standing.{Stands, is_ranked}
 use Rattle.css_domain.proofs.StandingLaws.{stands_by}
-use Rattle.css_prune.specs.Pruning.{kept, AreWithin, IsPruned}
+use Rattle.css_domain.specs.Records.{AreWithin}
+use Rattle.css_prune.specs.Pruning.{kept, IsPruned}
 use Rattle.css_prune.specs.Marks.{AreDropped, AreRanks, rank_after}
 use Rattle.css_prune.proofs.Tests.{there_or_past}
 use Rattle.css_prune.specs.declared.pruned.Pruned.{Pruned}

@@ -14,7 +14,7 @@ use Rattle.css_domain.specs.declared.shape.Shape.TheVariants.{Nothing}
 use Rattle.css_domain.specs.declared.record.Record.{Record}
 use Rattle.css_domain.specs.Records.{numbers, has_same_length}
 use Rattle.css_domain.specs.Standing.{Ranked, RestsOn, IsSupport, Stands, gives, is_ranked, each_same_length}
-use Rattle.css_prune.specs.Pruning.{AreWithin}
+use Rattle.css_domain.specs.Records.{AreWithin}
 use Rattle.css_prune.specs.Marks.{gives_next, rank_after}
 use Rattle.css_prune.proofs.Tests.{any_by, all_by, each_passes}
 use Rattle.css_prune.proofs.Rounds.{ranked_by_end}

@@ -1,22 +1,12 @@
 -- What pruning answers.
-use Rattle.std.specs.Prelude.{◌≡◌, ◌<◌, ℕ, Bool, false, List, length, slice_index, slice_index_or}
-use Rattle.patterns.specs.Parts.{IsIn}
+use Rattle.std.specs.Prelude.{◌≡◌, ℕ, Bool, false, List, length, slice_index, slice_index_or}
 use Rattle.css_domain.specs.declared.record.Record.{Record}
-use Rattle.css_domain.specs.Records.{numbers}
 use Rattle.css_domain.specs.Standing.{rank_of, pick_of, TellsStanding}
 use Rattle.css_prune.specs.declared.pruned.Pruned.{Pruned}
 
 -- the classes that are kept
 abbrev pub kept : List Bool → ℕ → Bool
 kept keep c = slice_index_or keep c false
-
--- all numbers of the record are below the number of classes
-pub record IsWithin (classes : ℕ) (r : Record) : Type 0 where
-  pub own : r.parent < classes
-  pub child : (slot : ℕ) → slot < length (numbers r) → slice_index (numbers r) slot < classes
-
-abbrev pub AreWithin : ℕ → List Record → Type 0
-AreWithin classes records = (r : Record) → IsIn r records → IsWithin classes r
 
 -- whether it is kept, a rank and a pick for each class
 pub record HasLength (classes : ℕ) (pruned : Pruned) : Type 0 where

@@ -2,7 +2,8 @@ ghost use Rattle.std.specs.Prelude.{◌≡◌, ◌<◌, ◌^◌, ◌&&◌, ◌||
 ghost use Rattle.std.specs.List.{list_all, range_with_len};
 ghost use Rattle.css_domain.specs.Shapes.{is_same_length};
 ghost use Rattle.css_prune.specs.Marks.{has_rank_below, gives_mark, AreBelow, AreShort, IsGiven, IsSkipped};
-ghost use Rattle.css_prune.specs.Pruning.{kept, IsWithin};
+ghost use Rattle.css_domain.specs.Records.{IsWithin};
+ghost use Rattle.css_prune.specs.Pruning.{kept};
 
 use css_domain::{Record, Shape, same_length};
 

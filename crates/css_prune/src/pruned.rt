@@ -2,7 +2,8 @@ ghost use Rattle.std.specs.Prelude.{◌≡◌, ◌<◌, ℕ, true, false, length
 ghost use Rattle.std.specs.Bool.{OnTrue};
 ghost use Rattle.css_domain.specs.Standing.{TellsStanding, rank_of, pick_of};
 ghost use Rattle.css_prune.specs.Marks.{how_many, AreDropped, AreShort};
-ghost use Rattle.css_prune.specs.Pruning.{kept, AreWithin, HasLength};
+ghost use Rattle.css_domain.specs.Records.{AreWithin};
+ghost use Rattle.css_prune.specs.Pruning.{kept, HasLength};
 
 use crate::round::{Marks, marks_of};
 use css_domain::Record;

@@ -1,6 +1,7 @@
 ghost use Rattle.std.specs.Prelude.{◌≡◌, ◌<◌, ◌^◌, suc, false, length, IfOk};
 ghost use Rattle.css_prune.specs.Marks.{AreShort, AreAfter, AreRanks};
-ghost use Rattle.css_prune.specs.Pruning.{kept, AreWithin};
+ghost use Rattle.css_domain.specs.Records.{AreWithin};
+ghost use Rattle.css_prune.specs.Pruning.{kept};
 
 use crate::gift::give;
 use css_domain::Record;
