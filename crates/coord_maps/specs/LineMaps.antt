@@ -28,3 +28,14 @@ first_line m old = if nat_lt m.at old then old + m.parts - 1 else old
 -- how many new lines go to an old one
 abbrev pub parts_of : Cut → ℕ → ℕ
 parts_of m old = if nat_eq old m.at then m.parts else 1
+
+-- the line at a place cut into three
+abbrev pub in_three : ℕ → ℕ → Cut
+in_three lines at = record { lines = lines; at = at; parts = 3 }
+
+-- the new line of a point of line i where line `at` is cut into three at another of its points: that point gets the
+-- middle part, and the points of a lower rank than it the first
+abbrev pub part_at : ℕ → ℕ → ℕ → ℕ → ℕ
+part_at at rank middle_rank i =
+    if nat_lt i at then i else if nat_lt at i then i + 2
+    else if nat_lt rank middle_rank then i else if nat_lt middle_rank rank then i + 2 else i + 1

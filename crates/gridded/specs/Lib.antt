@@ -14,3 +14,4 @@ pub mod CellSets
 pub mod CellBits
 pub mod CellSetOrder
 pub mod Parts
+pub mod Places

@@ -17,8 +17,8 @@ use Rattle.gridded.proofs.GriddedLists.{from_IsIn-cells_in}
 use Rattle.tiling_core.specs.Tiles.{Tiles}
 use Rattle.tiling_core.specs.Patterns.{point_at, forbids, active_cells}
 use Rattle.steps.specs.Patterns.{requires_list}
-use Rattle.tile_rules.specs.declared.kind.Kind.{Kind}
-use Rattle.tile_rules.specs.Choices.{insertions}
+use Rattle.rule_kinds.specs.declared.kind.Kind.{Kind}
+use Rattle.rule_kinds.specs.Choices.{insertions}
 use Rattle.insertion.specs.Open.{is_open, insert_at, insertion_at, insertions_in}
 
 abbrev at : ℕ → ℕ → Cell

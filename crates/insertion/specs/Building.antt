@@ -1,11 +1,11 @@
 -- Which kinds are insertions, and when one is refused.
 use Rattle.std.specs.Prelude.{◌≡◌, Bool, true, false, ◌&&◌}
 use Rattle.tiling_core.specs.Tiles.{Tiles}
-use Rattle.tile_rules.specs.declared.kind.Kind.{Kind}
-use Rattle.tile_rules.specs.declared.kind.Kind.TheVariants as kind
-use Rattle.tile_rules.specs.declared.fault.RawFault.{RawFault}
-use Rattle.tile_rules.specs.declared.fault.RawFault.TheVariants as raw
-use Rattle.tile_rules.specs.Built.{applies_now}
+use Rattle.rule_kinds.specs.declared.kind.Kind.{Kind}
+use Rattle.rule_kinds.specs.declared.kind.Kind.TheVariants as kind
+use Rattle.rule_kinds.specs.declared.fault.RawFault.{RawFault}
+use Rattle.rule_kinds.specs.declared.fault.RawFault.TheVariants as raw
+use Rattle.rule_kinds.specs.Built.{applies_now}
 
 abbrev pub is_insertion : Kind → Bool
 is_insertion (kind.Insert r) = true

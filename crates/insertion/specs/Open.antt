@@ -4,8 +4,8 @@ use Rattle.std.specs.List.{range_with_len}
 use Rattle.gridded.specs.declared.cell.Cell.{Cell}
 use Rattle.gridded.specs.CellSets.{is_among}
 use Rattle.tiling_core.specs.Patterns.{point_at}
-use Rattle.tile_rules.specs.declared.kind.Kind.{Kind}
-use Rattle.tile_rules.specs.declared.kind.Kind.TheVariants as kind
+use Rattle.rule_kinds.specs.declared.kind.Kind.{Kind}
+use Rattle.rule_kinds.specs.declared.kind.Kind.TheVariants as kind
 
 -- whether a cell is in the one set and not in the other
 abbrev pub is_open : List Cell → List Cell → Cell → Bool

@@ -1,6 +1,6 @@
 ghost use Rattle.std.specs.Prelude.{◌≡◌, ◌&&◌, true, false, IfOk, IfErr, OnOk};
-ghost use Rattle.tile_rules.specs.Built.{applies_now};
-ghost use Rattle.tile_rules.specs.Children.{raw_children};
+ghost use Rattle.rule_kinds.specs.Built.{applies_now};
+ghost use Rattle.rule_kinds.specs.Children.{raw_children};
 ghost use Rattle.insertion.specs.Building.{is_insertion, IsRefused};
 
 use std::alloc::Global;

@@ -1,6 +1,6 @@
 ghost use Rattle.std.specs.Prelude.{◌≡◌, ◌<◌, ◌≤◌, ◌++◌, IfOk, OnOk};
 ghost use Rattle.tiling_core.specs.Patterns.{point_at};
-ghost use Rattle.tile_rules.specs.Choices.{insertions};
+ghost use Rattle.rule_kinds.specs.Choices.{insertions};
 ghost use Rattle.insertion.specs.Open.{insertion_at, insertions_in};
 
 use crate::required::required_cells;

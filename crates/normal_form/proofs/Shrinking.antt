@@ -29,7 +29,8 @@ use Rattle.steps.specs.Patterns.{has_one_point_in}
 use Rattle.steps.specs.Steps.{step_applies, step_result, void_tiling, is_nil, is_hopeless, is_isolated, can_be_cleaned, is_other_list, cleaned, cleaned_list, clean, useful, is_implied, tidied, tidy_lists, is_blank, close_up, close_cell, misses, without_line}
 use Rattle.steps.proofs.ListTests.{which_passes, at_each}
 use Rattle.normal_form.specs.Measure.{size, size_of_pattern, size_of_patterns, size_of_list, StepsShrink}
-use Rattle.normal_form.proofs.Sums.{in_order_sum, filter_sum, filter_drops, StaysOrFalls, filter_falls, map_sum, map_drops, map_falls, falls_then, in_sum, map_itself}
+use Rattle.sequences.proofs.Sums.{in_order_sum}
+use Rattle.normal_form.proofs.Sums.{filter_sum, filter_drops, StaysOrFalls, filter_falls, map_sum, map_drops, map_falls, falls_then, in_sum, map_itself}
 
 -- what is put in order is no larger
 tiling_of_size : (w h : ℕ) (obstructions : List (List Point)) (lists : List (List (List Point)))

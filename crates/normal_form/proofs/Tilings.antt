@@ -34,7 +34,7 @@ use Rattle.steps.proofs.OnLine.{closed_is_gridded, obstructions_closed_in, lists
 use Rattle.steps.proofs.Removed.{all_cleaned_in}
 use Rattle.steps.proofs.Replays.{one_after, keeps_itself}
 use Rattle.normal_form.specs.TraceLaws.{StepsKeepTilings, ReplaysKeepMembers, ReplaysKeepTilings, TracesEndNormal}
-use Rattle.normal_form.proofs.Sums.{in_order_sum}
+use Rattle.sequences.proofs.Sums.{in_order_sum}
 use Rattle.normal_form.proofs.Tracing.{first_applies, at_end, begins, none_applies}
 
 -- ---- lists stay short

@@ -23,7 +23,7 @@ use Rattle.tiling_core.specs.Tiles.{Tiles}
 use Rattle.tiling_core.specs.Patterns.{point_at, rising, falling}
 use Rattle.tiling_core.proofs.Deciding.{each_passes, all_pass, holds_decides, false_from, not_held}
 use Rattle.steps.specs.Patterns.{shares_line}
-use Rattle.tile_rules.specs.Children.{alone_in}
+use Rattle.rule_kinds.specs.Children.{alone_in}
 use Rattle.placement_law.proofs.Positions.{Distinct, letters_apart}
 use Rattle.placement_law.proofs.Thirds.{Standing, standing}
 use Rattle.placement_law.proofs.Thirds.Standing.{less, more, even}

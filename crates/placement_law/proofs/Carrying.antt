@@ -23,30 +23,31 @@ use Rattle.tiling_core.specs.Carried.{MemberOf, CarriesTo}
 use Rattle.tiling_core.specs.Patterns.{also}
 use Rattle.tiling_core.proofs.Deciding.{is_member_decides, fits_grid_decides, each_passes, all_pass, one_passes, some_passes, false_from, not_held}
 use Rattle.tiling_core.proofs.Ordered.{is_member-also}
-use Rattle.coord_maps.specs.LineMaps.{old_line}
+use Rattle.coord_maps.specs.LineMaps.{old_line, part_at, in_three}
 use Rattle.coord_maps.specs.GridMaps.{IsGridMap, collapse, moved, old_cell}
 use Rattle.coord_maps.specs.Laws.{PreimagesAreListed, StretchKeepsMembers, CollapseIsGridded}
-use Rattle.tile_rules.specs.Pointeds.{PointedPattern}
-use Rattle.tile_rules.specs.declared.kind.Direction.{Direction}
-use Rattle.tile_rules.specs.declared.kind.Kind.TheVariants as kind
-use Rattle.tile_rules.specs.Kinds.{IsKept, IsPointed, pointed_cell, point_of, axis_of, is_farther}
-use Rattle.tile_rules.specs.Lines.{in_grid}
-use Rattle.tile_rules.specs.Children as C
-use Rattle.tile_rules.specs.Children.{around, middle, placed, patterns_pointed, raw_children}
-use Rattle.tile_rules.specs.Conditions as D
-use Rattle.tile_rules.specs.Conditions.{applies, all_distinct, on_one_line}
-use Rattle.tile_rules.specs.Carry.{Image, rank_along, is_pointed_by, pointed_points, farthest, split, number_of, pattern_of_child}
-use Rattle.tile_rules.specs.Carried.{numbered_image, from_image, IsCarriedOneToOne}
-use Rattle.tile_rules.specs.Laws.Carrying.{from_further}
+use Rattle.rule_kinds.specs.Pointeds.{PointedPattern}
+use Rattle.rule_kinds.specs.declared.kind.Direction.{Direction}
+use Rattle.rule_kinds.specs.declared.kind.Kind.TheVariants as kind
+use Rattle.rule_kinds.specs.Kinds.{IsKept, IsPointed, pointed_cell, point_of, axis_of, is_farther}
+use Rattle.rule_kinds.specs.Lines.{in_grid}
+use Rattle.rule_kinds.specs.Children as C
+use Rattle.rule_kinds.specs.Children.{around, middle, placed, patterns_pointed, raw_children, over_of, middle_of}
+use Rattle.rule_kinds.specs.Conditions as D
+use Rattle.rule_kinds.specs.Conditions.{applies, all_distinct, on_one_line}
+use Rattle.rule_kinds.specs.Carry.{Image, is_pointed_by, pointed_points, farthest, split, number_of, pattern_of_child, split_cell}
+use Rattle.gridded.specs.Places.{rank_along, relocated}
+use Rattle.rule_kinds.specs.Carried.{numbered_image, from_image, IsCarriedOneToOne}
+use Rattle.tiling_core.proofs.Further.{holding_none, from_further}
 use Rattle.placement_law.specs.Placing.{PlacementsCarryMembers}
-use Rattle.placement_law.proofs.Positions.{Distinct, IsAlong, along, relocated, rank_relocated}
-use Rattle.placement_law.proofs.Thirds.{part_at, in_three, part_again, old_of_middle}
-use Rattle.placement_law.proofs.Splits.{split_cell, collapse_of_split, split_is_gridded, middle_of_split, only_in_split, line_of_middle}
+use Rattle.placement_law.proofs.Positions.{Distinct, IsAlong, along, rank_relocated}
+use Rattle.placement_law.proofs.Thirds.{part_again, old_of_middle}
+use Rattle.placement_law.proofs.Splits.{collapse_of_split, split_is_gridded, middle_of_split, only_in_split, line_of_middle}
 use Rattle.placement_law.proofs.Alone.{IsOnly}
 use Rattle.placement_law.proofs.Marked.{pointed_cell_is, held_when_pointed, pointed_when_held, point_in_list}
 use Rattle.placement_law.proofs.Farthest.{line_not_beyond, rank_not_beyond, farthest_tells, farthest_none, farthest_of_none, farthest_is}
 use Rattle.placement_law.proofs.Numbered.{IsAt, at_in, at_get, at_map, at_below, at_place, at_position, each_of, one_pointed, position_is}
-use Rattle.placement_law.proofs.Placed.{over_of, middle_of, around_is_map, placed_from, placed_tells}
+use Rattle.placement_law.proofs.Placed.{around_is_map, placed_from, placed_tells}
 
 -- ---- beyond by line and by rank
 beyond_by_line : (d : Direction) (h : List Point) → IsAlong (axis_of d) h → (y z : Point) → IsIn y h → IsIn z h → is_farther d (rank_along (axis_of d) h y) (rank_along (axis_of d) h z) ≡ false → is_farther d (line_of (axis_of d) y.cell) (line_of (axis_of d) z.cell) ≡ false
@@ -92,13 +93,6 @@ split_again t c h z d e o =
 
 member_by_test : (t : Tiles) (n : ℕ) (g : List Point) → MemberOf t n g → is_member t g ≡ true
 member_by_test t n g m = (is_member_decides t g).1 m.member
-
--- a member that holds none of further obstructions
-holding_none : (t : Tiles) (patterns : List (List Point)) (n : ℕ) (g : List Point) → MemberOf t n g → list_all (λ p. not (holds g p)) patterns ≡ true → MemberOf (also t patterns []) n g
-holding_none t patterns n g m e = record {
-  gridded = m.gridded;
-  member = (is_member_decides (also t patterns []) g).0 (is_member-also t patterns [] g ∙ both_true _ _ (member_by_test t n g m) (both_true _ true e refl));
-}
 
 module _ (listed : PreimagesAreListed) (keeps : StretchKeepsMembers) (collapsed : CollapseIsGridded) (t : Tiles) (tiling : IsTiling t) (qs : List PointedPattern) (pointed : (q : PointedPattern) → IsIn q qs → IsPointed q) (d : Direction) (narrow : t.width ≤ 6) (low : t.height ≤ 6) (inside : (q : PointedPattern) → IsIn q qs → IsCellOf t.width t.height (pointed_cell q)) (distinct : all_distinct (map pointed_cell qs) ≡ true) where
   over_is_map : (q : PointedPattern) → IsIn q qs → IsGridMap (over_of t q)

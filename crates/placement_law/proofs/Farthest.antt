@@ -8,10 +8,11 @@ use Rattle.patterns.specs.Parts.IsIn.{here, later}
 use Rattle.patterns.proofs.Booleans.{not_true, not_false}
 use Rattle.gridded.specs.Grids.{Point}
 use Rattle.tiling_core.proofs.Deciding.{each_passes, all_pass}
-use Rattle.tile_rules.specs.declared.kind.Direction.{Direction}
-use Rattle.tile_rules.specs.declared.kind.Direction.TheVariants.{North, South, East, West}
-use Rattle.tile_rules.specs.Kinds.{axis_of, is_farther}
-use Rattle.tile_rules.specs.Carry.{rank_along, farthest}
+use Rattle.rule_kinds.specs.declared.kind.Direction.{Direction}
+use Rattle.rule_kinds.specs.declared.kind.Direction.TheVariants.{North, South, East, West}
+use Rattle.rule_kinds.specs.Kinds.{axis_of, is_farther}
+use Rattle.gridded.specs.Places.{rank_along}
+use Rattle.rule_kinds.specs.Carry.{farthest}
 
 -- ---- directions
 pub not_beyond_itself : (d : Direction) (a : ℕ) → is_farther d a a ≡ false

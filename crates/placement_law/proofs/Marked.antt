@@ -19,10 +19,10 @@ use Rattle.coord_maps.specs.LineMaps.{new_lines}
 use Rattle.coord_maps.specs.GridMaps.{old_cell, moved, collapse, fits_new}
 use Rattle.coord_maps.specs.Preimages.{preimages}
 use Rattle.coord_maps.specs.Laws.{PreimagesAreListed}
-use Rattle.tile_rules.specs.Pointeds.{PointedPattern}
-use Rattle.tile_rules.specs.Kinds.{IsPointed, point_of, pointed_cell}
-use Rattle.tile_rules.specs.Children.{lifts_pointed}
-use Rattle.tile_rules.specs.Carry.{is_pointed_by}
+use Rattle.rule_kinds.specs.Pointeds.{PointedPattern}
+use Rattle.rule_kinds.specs.Kinds.{IsPointed, point_of, pointed_cell}
+use Rattle.rule_kinds.specs.Children.{lifts_pointed}
+use Rattle.rule_kinds.specs.Carry.{is_pointed_by}
 use Rattle.placement_law.proofs.Positions.{Distinct, letters_apart}
 use Rattle.coord_maps.proofs.Holding.{lifted, fits, fits-lifted, moved-lifted, consistent-lifted, consistent_part, lifted_fits, part_fits, fits_moved}
 use Rattle.placement_law.proofs.Alone.{in_part, held_tells, held_from, same_cell_tells}

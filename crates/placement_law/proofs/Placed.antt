@@ -8,7 +8,6 @@ use Rattle.patterns.specs.Parts.IsIn.{here}
 use Rattle.patterns.proofs.Booleans.{and_true, both_true, not_false}
 use Rattle.patterns.proofs.NoRepeat.{IsIn-flat_map, from_IsIn-flat_map}
 use Rattle.gridded.specs.declared.cell.Cell.{Cell}
-use Rattle.gridded.specs.Axes.{line_of}
 use Rattle.gridded.specs.Grids.{Point, holds}
 use Rattle.gridded.specs.Orders.{cell_eq}
 use Rattle.gridded.specs.OrderLaws.{cell_eq_decides}
@@ -22,24 +21,14 @@ use Rattle.coord_maps.specs.declared.grid_map.GridMap.{GridMap}
 use Rattle.coord_maps.specs.GridMaps.{IsGridMap, collapse, fits_new}
 use Rattle.coord_maps.specs.Stretches.{stretch}
 use Rattle.coord_maps.specs.Laws.{PreimagesAreListed, StretchKeepsMembers, CollapseIsGridded}
-use Rattle.tile_rules.specs.Pointeds.{PointedPattern}
-use Rattle.tile_rules.specs.declared.kind.Direction.{Direction}
-use Rattle.tile_rules.specs.Kinds.{IsPointed, pointed_cell, axis_of, is_farther}
-use Rattle.tile_rules.specs.Children.{around, middle, alone_in, lifts_pointed, placed}
-use Rattle.tile_rules.specs.Carry.{is_pointed_by}
+use Rattle.rule_kinds.specs.Pointeds.{PointedPattern}
+use Rattle.rule_kinds.specs.declared.kind.Direction.{Direction}
+use Rattle.rule_kinds.specs.Kinds.{IsPointed}
+use Rattle.rule_kinds.specs.Children.{around, over_of, middle_of, is_beyond, alone_in, lifts_pointed, placed}
+use Rattle.rule_kinds.specs.Carry.{is_pointed_by}
 use Rattle.placement_law.proofs.Splits.{cell_inside}
 use Rattle.placement_law.proofs.Alone.{IsOnly, avoids_alone, only_from, holds_its_point}
 use Rattle.placement_law.proofs.Marked.{pointed_held, held_pointed}
-
--- whether a cell lies beyond m
-abbrev pub is_beyond : Direction → Cell → Cell → Bool
-is_beyond d m c = is_farther d (line_of (axis_of d) c) (line_of (axis_of d) m)
-
-abbrev pub over_of : Tiles → PointedPattern → GridMap
-over_of t q = around t (pointed_cell q)
-
-abbrev pub middle_of : PointedPattern → Cell
-middle_of q = middle (pointed_cell q)
 
 -- what a member h of the child of q is, where g is its collapse
 pub record IsPlaced (qs : List PointedPattern) (d : Direction) (q : PointedPattern) (g h : List Point) (z : Point) : Type 0 where

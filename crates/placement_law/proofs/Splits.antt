@@ -13,23 +13,15 @@ use Rattle.gridded.specs.declared.cell.Cell.{Cell}
 use Rattle.gridded.specs.Axes.{line_of}
 use Rattle.gridded.specs.Grids.{Point, is_consistent}
 use Rattle.gridded.specs.Orders.{cells_of}
+use Rattle.gridded.specs.Places.{rank_along, relocated}
 use Rattle.gridded.specs.Laws.{IsCellOf, IsGriddedOf}
 use Rattle.tiling_core.specs.Tiles.{Tiles}
+use Rattle.coord_maps.specs.LineMaps.{part_at}
 use Rattle.coord_maps.specs.GridMaps.{collapse, moved, old_cell}
-use Rattle.tile_rules.specs.Children.{around, middle}
-use Rattle.tile_rules.specs.Carry.{rank_along, split}
-use Rattle.placement_law.proofs.Positions.{pos, Distinct, IsAlong, along, consistent_along, relocated, letters_relocated, pos_relocated}
-use Rattle.placement_law.proofs.Thirds.{part_at, old_of_part, part_rises, part_in_middle, part_of_itself, part_within}
-
--- the cell of q in the split at p
-abbrev pub split_cell : List Point → Point → Point → Cell
-split_cell g p q = record {
-  x = part_at p.cell.x (rank_along axis.Column g q) (rank_along axis.Column g p) q.cell.x;
-  y = part_at p.cell.y (rank_along axis.Row g q) (rank_along axis.Row g p) q.cell.y;
-}
-
-pub split_is : (g : List Point) (p : Point) → split g p ≡ map (relocated (split_cell g p)) g
-split_is g p = refl
+use Rattle.rule_kinds.specs.Children.{around, middle}
+use Rattle.rule_kinds.specs.Carry.{split_cell, split}
+use Rattle.placement_law.proofs.Positions.{pos, Distinct, IsAlong, along, consistent_along, letters_relocated, pos_relocated}
+use Rattle.placement_law.proofs.Thirds.{old_of_part, part_rises, part_in_middle, part_of_itself, part_within}
 
 pub line_of_split : (a : Axis) (g : List Point) (p q : Point) → line_of a (split_cell g p q) ≡ part_at (line_of a p.cell) (rank_along a g q) (rank_along a g p) (line_of a q.cell)
 line_of_split axis.Column g p q = refl

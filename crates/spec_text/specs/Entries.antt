@@ -3,7 +3,7 @@ use Rattle.std.specs.Prelude.{ℕ, List, [], ◌∷◌, ◌++◌, codes, decimal
 use Rattle.tiling_core.specs.Tiles.{Tiles}
 use Rattle.steps.specs.declared.step.Step.{Step}
 use Rattle.css_domain.specs.Entries.{Entry}
-use Rattle.tile_rules.specs.Rules.{TilingRule}
+use Rattle.rule_kinds.specs.Rules.{TilingRule}
 use Rattle.spec_text.specs.Lines.{Text, line, numbered}
 use Rattle.spec_text.specs.Classes.{class_text}
 use Rattle.spec_text.specs.Traces.{child_line}

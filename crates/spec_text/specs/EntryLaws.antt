@@ -6,7 +6,7 @@ use Rattle.std.proofs.Math.Seq.{take-suc}
 use Rattle.std.proofs.lemmas.List.{length-take-le}
 use Rattle.tiling_core.specs.Tiles.{Tiles}
 use Rattle.css_domain.specs.Entries.{Entry}
-use Rattle.tile_rules.specs.Rules.{TilingRule}
+use Rattle.rule_kinds.specs.Rules.{TilingRule}
 use Rattle.spec_text.specs.Lines.{Text, numbered}
 use Rattle.spec_text.specs.Entries.{entry_text, entries_text}
 

@@ -1,11 +1,11 @@
 -- The text of kinds of rules.
 use Rattle.std.specs.Prelude.{List, [], ◌∷◌, ◌++◌, map, codes, decimal}
 use Rattle.gridded.specs.declared.cell.Cell.{Cell}
-use Rattle.tile_rules.specs.Pointeds.{PointedPattern}
-use Rattle.tile_rules.specs.declared.kind.Direction.{Direction}
-use Rattle.tile_rules.specs.declared.kind.Direction.TheVariants.{North, South, East, West}
-use Rattle.tile_rules.specs.declared.kind.Kind.{Kind}
-use Rattle.tile_rules.specs.declared.kind.Kind.TheVariants as kind
+use Rattle.rule_kinds.specs.Pointeds.{PointedPattern}
+use Rattle.rule_kinds.specs.declared.kind.Direction.{Direction}
+use Rattle.rule_kinds.specs.declared.kind.Direction.TheVariants.{North, South, East, West}
+use Rattle.rule_kinds.specs.declared.kind.Kind.{Kind}
+use Rattle.rule_kinds.specs.declared.kind.Kind.TheVariants as kind
 use Rattle.spec_text.specs.Lines.{Text, line}
 use Rattle.spec_text.specs.Patterns.{cells_text, pattern_text}
 

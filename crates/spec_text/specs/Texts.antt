@@ -4,7 +4,7 @@ use Rattle.tiling_core.specs.Tiles.{Tiles}
 use Rattle.steps.specs.declared.step.Step.{Step}
 use Rattle.css_domain.specs.Entries.{Entry}
 use Rattle.css_terms.specs.declared.term.Term.{Term}
-use Rattle.tile_rules.specs.Rules.{TilingRule}
+use Rattle.rule_kinds.specs.Rules.{TilingRule}
 use Rattle.spec_text.specs.Lines.{Text, line}
 use Rattle.spec_text.specs.Traces.{head_text}
 use Rattle.spec_text.specs.Entries.{entries_text}

@@ -8,8 +8,8 @@ use Rattle.gridded.specs.Grids.{Point}
 use Rattle.tiling_core.specs.Measures.{weight}
 use Rattle.tiling_core.specs.Tiles.{Tiles, IsInGrid, fits_grid}
 use Rattle.steps.specs.Steps.{is_nil}
-use Rattle.tile_rules.specs.Conditions.{ascends, is_inferable}
-use Rattle.tile_rules.specs.Lines.{in_grid}
+use Rattle.rule_kinds.specs.Conditions.{ascends, is_inferable}
+use Rattle.rule_kinds.specs.Lines.{in_grid}
 
 pub inserted_in_grid : (t : Tiles) (r : List Point) → (not (is_nil r) && in_grid t r) ≡ true → in_grid t r ≡ true
 inserted_in_grid t r e = (and_true (not (is_nil r)) (in_grid t r) e).1

@@ -8,13 +8,12 @@ use Rattle.steps.specs.declared.step.Step.{Step}
 use Rattle.steps.specs.declared.step.Step.TheVariants.{Void}
 use Rattle.steps.specs.Steps.{void_tiling, step_applies, step_result}
 use Rattle.steps.specs.Traces.{replay}
-use Rattle.tile_rules.specs.Replayed.{AreReplays}
-use Rattle.tile_rules.specs.Rules.{TilingRule}
-use Rattle.tile_rules.specs.Pointeds.{PointedPattern}
-use Rattle.tile_rules.specs.Kinds.{IsKept}
-use Rattle.tile_rules.specs.Children.{raw_children}
-use Rattle.tile_rules.specs.Built.{applies_now}
-use Rattle.tile_rules.specs.Follows.{Follows}
+use Rattle.rule_kinds.specs.Replayed.{AreReplays}
+use Rattle.rule_kinds.specs.Rules.{TilingRule}
+use Rattle.rule_kinds.specs.Kinds.{IsKept}
+use Rattle.rule_kinds.specs.Children.{raw_children}
+use Rattle.rule_kinds.specs.Built.{applies_now}
+use Rattle.rule_kinds.specs.Follows.{Follows}
 
 -- a step is refused, so the trace leads nowhere
 pub leads_nowhere : (t u : Tiles) (trace : List Step) (k : ℕ) → k < length trace → replay t (take k trace) ≡ Some u → step_applies (get_or trace k Void) u ≡ false → replay t trace ≡ None
@@ -75,10 +74,6 @@ one_misses raw traces children e f k l t trace child a b c g =
 
 pub every_one_leads : (raw : List Tiles) (traces : List (List Step)) (children : List Tiles) → length traces ≡ length raw → length children ≡ length raw → ((k : ℕ) → k < length raw → LeadsAt raw traces children k) → IsTrue true ↔ AreReplays raw traces children
 every_one_leads raw traces children e f h = (λ i. all_lead raw traces children e f h, λ i. refl)
-
--- no point is pointed to
-abbrev pub nothing_pointed : PointedPattern
-nothing_pointed = record { pattern = []; index = 0 }
 
 -- ---- a rule
 is_never : (r : TilingRule) → (Follows r → ⊥) → IsTrue false ↔ Follows r

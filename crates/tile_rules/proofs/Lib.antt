@@ -1,13 +1,3 @@
-pub mod Texts
-pub mod Entries
-pub mod CarryRows
-pub mod ChildRows
-pub mod LawRows
 pub mod OneCell
-pub mod Joined
-pub mod ListTests
-pub mod NoMembers
 pub mod Applying
-pub mod Inferred
-pub mod Inferring
 pub mod Checked

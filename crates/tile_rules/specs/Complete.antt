@@ -3,10 +3,10 @@ use Rattle.std.specs.Prelude.{◌≡◌, ◌<◌, ◌+◌, ℕ, cond, List, map,
 use Rattle.tiling_core.specs.Tiles.{Tiles}
 use Rattle.steps.specs.Traces.{IsNormal}
 use Rattle.normal_form.specs.TraceLaws.{trace}
-use Rattle.tile_rules.specs.Rules.{TilingRule}
-use Rattle.tile_rules.specs.Children.{raw_children}
-use Rattle.tile_rules.specs.Choices.{Packs, kinds_of}
-use Rattle.tile_rules.specs.Follows.{Follows}
+use Rattle.rule_kinds.specs.Rules.{TilingRule}
+use Rattle.rule_kinds.specs.Children.{raw_children}
+use Rattle.rule_kinds.specs.Choices.{Packs, kinds_of}
+use Rattle.rule_kinds.specs.Follows.{Follows}
 
 -- the rules have exactly the kinds of the class in order, each follows, and each trace is that of its raw child
 pub record IsComplete (rules : List TilingRule) (t : Tiles) (packs : Packs) : Type 0 where

@@ -1,6 +1,4 @@
 -- Laws of rules on tilings, with their proofs: those that make tilings a domain.
-pub mod NoMembers
-pub mod Applied
 pub mod Carrying
 pub mod RuleCounts
 pub mod Domains

@@ -3,9 +3,9 @@ use Rattle.tiling_core.specs.Tiles.{Tiles, count}
 use Rattle.tiling_core.specs.Measures.{is_positive}
 use Rattle.tiling_core.specs.Same.{tiles_eq}
 use Rattle.css_domain.specs.Meanings.{Meaning}
-use Rattle.tile_rules.specs.Rules.{TilingRule}
-use Rattle.tile_rules.specs.Kinds.{shape_of}
-use Rattle.tile_rules.specs.Follows.{Follows}
+use Rattle.rule_kinds.specs.Rules.{TilingRule}
+use Rattle.rule_kinds.specs.Kinds.{shape_of}
+use Rattle.rule_kinds.specs.Follows.{Follows}
 use Rattle.tile_rules.specs.Complete.{IsCompleteFor}
 
 abbrev pub tile_meaning : Meaning Tiles TilingRule

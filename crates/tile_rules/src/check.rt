@@ -1,17 +1,25 @@
 ghost use Rattle.std.specs.Prelude.{◌≡◌, ◌<◌, ◌↔◌, IsTrue, IfOk, Some, All, length};
 ghost use Rattle.tiling_core.specs.Tiles.{IsTiling, IsKept};
 ghost use Rattle.steps.specs.Traces.{replay};
-ghost use Rattle.tile_rules.specs.Replayed.{AreReplays};
-ghost use Rattle.tile_rules.specs.Follows.{Follows};
+ghost use Rattle.rule_kinds.specs.Replayed.{AreReplays};
+ghost use Rattle.rule_kinds.specs.Follows.{Follows};
 
-use crate::fault::RawFault;
 use crate::raw::raw_children;
-use crate::reading::{read_kind, read_tilings};
 use crate::rule::TileRule;
+use rule_kinds::{RawFault, read_kind};
 use sequences::Sequence;
 use std::alloc::{AllocError, Global};
 use steps::{ReplayFault, Step, replay};
 use tiling_core::Tiling;
+
+/// Reads each tiling, so that what their type keeps is known.
+fn read_tilings(tilings: &[Tiling])
+    ensures { All (λ t. IsTiling t) tilings.now }
+{
+    for tiling in tilings {
+        let _ = tiling.width();
+    }
+}
 
 /// Whether a trace leads from a raw child to a child.
 fn leads_to(alloc: Global, raw: Tiling, trace: &[Step], child: &Tiling) -> Result<bool, AllocError>

@@ -1,7 +1,9 @@
-ghost use Rattle.tile_rules.specs.Carried.{MembersAreCarried};
-ghost use Rattle.tile_rules.specs.Counting.{RulesCount};
+ghost use Rattle.rule_kinds.specs.Carried.{MembersAreCarried};
+ghost use Rattle.rule_kinds.specs.Counting.{RulesCount};
 
 use emptiness::members_within_weight;
+use inferral_law::{inferrals_carry_members, voids_carry_members};
+use insertion_law::insertions_carry_members;
 use normal_form::replays_keep_members;
 use tiling_core::{counts_add_up, single_tilings};
 
@@ -14,6 +16,7 @@ pub fn rules_count()
     counts_add_up();
     members_within_weight();
     replays_keep_members();
+    members_are_carried();
 }
 
 /// By a kind that applies, where each member of the tiling has one image, that image is a member of a numbered raw
@@ -22,5 +25,7 @@ pub fn rules_count()
 pub fn members_are_carried()
     ensures { MembersAreCarried }
 {
-    members_within_weight();
+    insertions_carry_members();
+    inferrals_carry_members();
+    voids_carry_members();
 }

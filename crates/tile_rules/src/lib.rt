@@ -3,15 +3,8 @@
 #![tactic(auto)]
 
 mod check;
-mod condition;
-mod fault;
-mod further;
-mod inferral;
-mod kind;
 mod law;
-mod pointed;
 mod raw;
-mod reading;
 mod root;
 mod rule;
 #[cfg(test)]
@@ -21,12 +14,9 @@ mod tiles;
 mod tiles_tests;
 
 pub use check::check_rule;
-pub use fault::RawFault;
-pub use further::also;
-pub use kind::{Direction, Kind};
 pub use law::{members_are_carried, rules_count};
-pub use pointed::Pointed;
-pub use raw::raw_children;
+pub use raw::{children_of, raw_children};
 pub use root::root_raw;
 pub use rule::TileRule;
+pub use rule_kinds::{Direction, Kind, Pointed, RawFault, also, applies};
 pub use tiles::Tiles;

@@ -1,20 +1,17 @@
 ghost use Rattle.std.specs.Prelude.{◌≡◌, true, [], ◌∷◌, IfOk, IfErr, OnOk};
 ghost use Rattle.tiling_core.specs.Tiles.{IsInGrid};
 ghost use Rattle.tiling_core.specs.Patterns.{also};
-ghost use Rattle.tile_rules.specs.Built.{applies_now, IsRawRefused};
-ghost use Rattle.tile_rules.specs.Children.{raw_children};
-ghost use Rattle.tile_rules.specs.Lines.{in_grid};
+ghost use Rattle.rule_kinds.specs.Built.{applies_now, IsRawRefused};
+ghost use Rattle.rule_kinds.specs.Children.{raw_children};
+ghost use Rattle.rule_kinds.specs.Lines.{in_grid};
 
-use crate::condition::applies;
-use crate::fault::RawFault;
-use crate::further::{also, requiring};
-use crate::kind::Kind;
 use gridded::Gridded;
+use rule_kinds::{Kind, RawFault, also, applies, requiring};
 use std::alloc::{AllocError, Global};
 use tiling_core::Tiling;
 
 /// The tiling without the pattern, and that with it.
-#[tactic(auto, using(crate::proofs::Joined::single))]
+#[tactic(auto, using(rule_kinds::proofs::Joined::single))]
 fn inserted(alloc: Global, tiling: &Tiling, pattern: Gridded) -> Result<Vec<Tiling>, AllocError>
     requires { in_grid tiling.now pattern ≡ true }
     ensures { IfOk result (λ children. children.items ≡ also tiling.now (pattern ∷ []) [] ∷ also tiling.now [] ((pattern ∷ []) ∷ []) ∷ []) }
@@ -26,7 +23,7 @@ fn inserted(alloc: Global, tiling: &Tiling, pattern: Gridded) -> Result<Vec<Tili
 }
 
 /// The tiling without the patterns.
-#[tactic(auto, using(crate::proofs::Joined::single))]
+#[tactic(auto, using(rule_kinds::proofs::Joined::single))]
 fn inferred(alloc: Global, tiling: &Tiling, patterns: &[Gridded]) -> Result<Vec<Tiling>, AllocError>
     requires { IsInGrid tiling.now.width tiling.now.height patterns.now }
     ensures { IfOk result (λ children. children.items ≡ also tiling.now patterns.now [] ∷ []) }
@@ -36,9 +33,10 @@ fn inferred(alloc: Global, tiling: &Tiling, patterns: &[Gridded]) -> Result<Vec<
     Ok(children)
 }
 
-/// The raw children by a kind that applies.
-#[tactic(auto, using(crate::proofs::Applying::applying), unfolding(crate::specs::Children::raw_children, crate::specs::Conditions::applies))]
-fn children_of(alloc: Global, tiling: &Tiling, kind: &Kind) -> Result<Vec<Tiling>, AllocError>
+/// The children of a tiling by a kind that applies, before they are reduced (docs/RULES.md, "Kinds of rules"). The
+/// refusal is want of memory.
+#[tactic(auto, using(crate::proofs::Applying::applying), unfolding(rule_kinds::specs::Children::raw_children, rule_kinds::specs::Conditions::applies))]
+pub fn children_of(alloc: Global, tiling: &Tiling, kind: &Kind) -> Result<Vec<Tiling>, AllocError>
     requires { applies_now tiling.now kind.now ≡ true }
     ensures { IfOk result (λ children. children.items ≡ raw_children tiling.now kind.now) }
 {
@@ -57,14 +55,8 @@ pub fn raw_children(alloc: Global, tiling: &Tiling, kind: &Kind) -> Result<Vec<T
     ensures applicable { OnOk result (applies_now tiling.now kind.now ≡ true) }
     ensures refused { IfErr result (λ fault. IsRawRefused tiling.now kind.now fault) }
 {
-    let Ok(it_does) = applies(alloc, tiling, kind) else {
-        return Err(RawFault::Memory);
-    };
-    if !it_does {
+    if !applies(alloc, tiling, kind)? {
         return Err(RawFault::NotApplicable);
     }
-    match children_of(alloc, tiling, kind) {
-        Ok(children) => Ok(children),
-        Err(_) => Err(RawFault::Memory),
-    }
+    Ok(children_of(alloc, tiling, kind)?)
 }

@@ -1,11 +1,9 @@
-ghost use Rattle.std.specs.Prelude.{◌≡◌, [], IfOk, map};
-ghost use Rattle.tiling_core.specs.Patterns.{point_at};
-ghost use Rattle.tiling_core.specs.Roots.{in_one_cell, only_cell, root_of, unit_tiling, point_tiling};
+ghost use Rattle.std.specs.Prelude.{◌≡◌, IfOk, map};
+ghost use Rattle.tiling_core.specs.Roots.{in_one_cell, root_of};
 ghost use Rattle.tile_rules.specs.Avoiding.{CountsAvoiders, HasNoEmptyWord};
 
 use gridded::{Cell, Gridded};
 use perm_core::Perm;
-use sequences::Sequence;
 use std::alloc::{AllocError, Global};
 use tiling_core::{Tiling, root_counts_avoiders};
 
@@ -52,37 +50,4 @@ pub fn root_raw(alloc: Global, basis: &[Perm]) -> Result<Tiling, AllocError>
     root_counts_avoiders();
     let tiling = tiling_of_words(alloc, basis)?;
     Ok(tiling)
-}
-
-/// The pattern of one point in the corner.
-#[tactic(auto, using(crate::proofs::Joined::cornered))]
-fn corner_point() -> Gridded
-    ensures { result ≡ point_at only_cell }
-{
-    Gridded::from_consistent(&[0], &[CORNER])
-}
-
-/// The unit tiling.
-#[tactic(auto, using(crate::proofs::Joined::cornered))]
-pub(crate) fn unit_tiling(alloc: Global) -> Result<Tiling, AllocError>
-    ensures { IfOk result (λ t. t ≡ unit_tiling) }
-{
-    Tiling::in_grid(0, 0, Vec::new(alloc), Vec::new(alloc))
-}
-
-/// The point tiling.
-#[tactic(auto, using(crate::proofs::Joined::cornered))]
-pub(crate) fn point_tiling(alloc: Global) -> Result<Tiling, AllocError>
-    ensures { IfOk result (λ t. t ≡ point_tiling) }
-{
-    let rising = Gridded::from_consistent(&[0, 1], &[CORNER, CORNER]);
-    let falling = Gridded::from_consistent(&[1, 0], &[CORNER, CORNER]);
-    let mut obstructions = Vec::new(alloc);
-    obstructions.push(rising)?;
-    obstructions.push(falling)?;
-    let mut patterns = Vec::new(alloc);
-    patterns.push(corner_point())?;
-    let mut lists = Vec::new(alloc);
-    lists.push(Sequence::of(patterns))?;
-    Tiling::in_grid(1, 1, obstructions, lists)
 }

@@ -1,7 +1,7 @@
 ghost use Rattle.std.specs.Prelude.{◌≡◌, IfOk};
-ghost use Rattle.tile_rules.specs.Rules.{HasKeptLists};
+ghost use Rattle.rule_kinds.specs.Rules.{HasKeptLists};
 
-use crate::kind::Kind;
+use rule_kinds::Kind;
 use sequences::{Copied, Sequence};
 use std::alloc::{AllocError, Global};
 use std::marker::Model;
@@ -20,7 +20,7 @@ pub struct TileRule {
 }
 
 impl Model for TileRule {
-    ghost use Rattle.tile_rules.specs.Rules.{TilingRule, HasKeptLists};
+    ghost use Rattle.rule_kinds.specs.Rules.{TilingRule, HasKeptLists};
 
     ghost Value = { TilingRule };
 

@@ -1,7 +1,7 @@
 ghost use Rattle.std.specs.Prelude.{◌≡◌, ◌<◌, IfOk, All, length};
 
 use crate::{
-    Direction, Kind, Pointed, RawFault, TileRule, also, check_rule, raw_children, root_raw,
+    Direction, Kind, Pointed, RawFault, TileRule, check_rule, raw_children, root_raw,
     rules_count,
 };
 use gridded::{Cell, Gridded, GriddedFault};
@@ -80,13 +80,15 @@ fn a_point_is_inserted_into_the_root(rt: HostRuntime) -> Result<(), Fail> {
 }
 
 #[test]
-fn the_root_is_not_the_unit_tiling(rt: HostRuntime) -> Result<(), Fail> {
+fn kinds_that_do_not_apply_to_the_root(rt: HostRuntime) -> Result<(), Fail> {
     let alloc = rt.alloc();
     let root = without_pairs(alloc, Vec::new(alloc))?;
-    assert_eq!(rt;
-        raw_children(alloc, &root, &Kind::Unit),
-        Err(RawFault::NotApplicable)
-    );
+    let far = Kind::Insert(Gridded::of(alloc, &[0], &[FAR])?);
+    let placed = placing(alloc, point(alloc)?)?;
+    let kinds = vec![in alloc; Kind::Unit, Kind::Point, Kind::Void, far, placed]?;
+    for kind in &kinds {
+        assert_eq!(rt; raw_children(alloc, &root, kind), Err(RawFault::NotApplicable));
+    }
     Ok(())
 }
 
@@ -100,50 +102,10 @@ fn the_void_tiling_has_no_member(rt: HostRuntime) -> Result<(), Fail> {
 }
 
 #[test]
-fn the_root_has_a_member(rt: HostRuntime) -> Result<(), Fail> {
-    let alloc = rt.alloc();
-    let root = without_pairs(alloc, Vec::new(alloc))?;
-    assert_eq!(rt;
-        raw_children(alloc, &root, &Kind::Void),
-        Err(RawFault::NotApplicable)
-    );
-    Ok(())
-}
-
-#[test]
-fn a_placement_has_no_children(rt: HostRuntime) -> Result<(), Fail> {
-    let alloc = rt.alloc();
-    let kind = placing(alloc, point(alloc)?)?;
-    assert_eq!(rt;
-        raw_children(alloc, &without_021(alloc)?, &kind),
-        Err(RawFault::NotApplicable)
-    );
-    Ok(())
-}
-
-#[test]
 fn a_kind_is_copied(rt: HostRuntime) -> Result<(), Fail> {
     let alloc = rt.alloc();
     let kind = placing(alloc, point(alloc)?)?;
     assert_eq!(rt; kind.copy(alloc)?, kind);
-    Ok(())
-}
-
-#[test]
-fn a_rule_is_copied(rt: HostRuntime) -> Result<(), Fail> {
-    let alloc = rt.alloc();
-    let trace = vec![in alloc; Step::Min, FIRST_COLUMN, FIRST_ROW]?;
-    let rule = insertion(alloc, trace)?;
-    assert_eq!(rt; rule.copy(alloc)?, rule);
-    Ok(())
-}
-
-#[test]
-fn nothing_further_is_the_same(rt: HostRuntime) -> Result<(), Fail> {
-    let alloc = rt.alloc();
-    let root = without_021(alloc)?;
-    let same = also(alloc, &root, &[], &[])?;
-    assert_eq!(rt; same, root);
     Ok(())
 }
 
@@ -202,32 +164,11 @@ fn insertion(alloc: Global, trace: Vec<Step>) -> Result<TileRule, Fail>
 }
 
 #[test]
-fn an_insertion_follows(rt: HostRuntime) -> Result<(), Fail> {
+fn insertions_follow_by_their_traces(rt: HostRuntime) -> Result<(), Fail> {
     let alloc = rt.alloc();
-    let trace = vec![in alloc; Step::Min, FIRST_COLUMN, FIRST_ROW]?;
-    let rule = insertion(alloc, trace)?;
-    assert_eq!(rt; check_rule(alloc, &rule), Ok(true));
-    Ok(())
-}
-
-#[test]
-fn an_insertion_without_a_trace(rt: HostRuntime) -> Result<(), Fail> {
-    let alloc = rt.alloc();
-    let rule = insertion(alloc, Vec::new(alloc))?;
-    assert_eq!(rt; check_rule(alloc, &rule), Ok(false));
-    Ok(())
-}
-
-#[test]
-fn a_placement_is_not_built(rt: HostRuntime) -> Result<(), Fail> {
-    let alloc = rt.alloc();
-    let rule = TileRule::of(
-        placing(alloc, point(alloc)?)?,
-        without_021(alloc)?,
-        Sequence::of(Vec::new(alloc)),
-        Sequence::of(Vec::new(alloc)),
-    );
-    assert_eq!(rt; check_rule(alloc, &rule), Ok(false));
+    let whole = vec![in alloc; Step::Min, FIRST_COLUMN, FIRST_ROW]?;
+    assert_eq!(rt; check_rule(alloc, &insertion(alloc, whole)?), Ok(true));
+    assert_eq!(rt; check_rule(alloc, &insertion(alloc, Vec::new(alloc))?), Ok(false));
     Ok(())
 }
 

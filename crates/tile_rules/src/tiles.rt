@@ -1,9 +1,9 @@
 ghost use Rattle.std.specs.Prelude.{◌≡◌};
-ghost use Rattle.tile_rules.specs.Kinds.{shape_of};
+ghost use Rattle.rule_kinds.specs.Kinds.{shape_of};
 
-use crate::kind::Kind;
 use crate::rule::TileRule;
 use css_domain::{Domain, Shape};
+use rule_kinds::Kind;
 use sequences::Copied;
 use std::alloc::{AllocError, Global};
 use tiling_core::{Tiling, positive};

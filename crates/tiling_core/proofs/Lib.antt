@@ -8,3 +8,4 @@ pub mod Single
 pub mod SameOrder
 pub mod Minimal
 pub mod GridCells
+pub mod Further

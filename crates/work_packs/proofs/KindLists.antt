@@ -16,13 +16,13 @@ use Rattle.steps.specs.Steps.{is_nil}
 use Rattle.emptiness.specs.Emptiness.{IsInferredOf}
 use Rattle.emptiness.proofs.Counted.{members_within_weight}
 use Rattle.emptiness.proofs.SmallPatterns.{active-in_grid}
-use Rattle.tile_rules.specs.declared.kind.Kind.{Kind}
-use Rattle.tile_rules.specs.declared.kind.Kind.TheVariants as kind
-use Rattle.tile_rules.specs.Conditions as D
-use Rattle.tile_rules.specs.Choices as H
-use Rattle.tile_rules.specs.Conditions.{applies}
-use Rattle.tile_rules.specs.Choices.{Packs, kinds_of, inferred, insertions, placements, when, first_that_is}
-use Rattle.tile_rules.proofs.Inferred.{inferred_is}
+use Rattle.rule_kinds.specs.declared.kind.Kind.{Kind}
+use Rattle.rule_kinds.specs.declared.kind.Kind.TheVariants as kind
+use Rattle.rule_kinds.specs.Conditions as D
+use Rattle.rule_kinds.specs.Choices as H
+use Rattle.rule_kinds.specs.Conditions.{applies}
+use Rattle.rule_kinds.specs.Choices.{Packs, kinds_of, inferred, insertions, placements, when, first_that_is}
+use Rattle.rule_kinds.proofs.Inferred.{inferred_is}
 use Rattle.work_packs.specs.BuiltLetters.{HasOnlyIAndN}
 use Rattle.work_packs.specs.KindLines.{closing_kinds, inferrals}
 

@@ -9,11 +9,11 @@ use Rattle.steps.specs.declared.step.Step.{Step}
 use Rattle.steps.specs.Traces.{replay, IsTrace}
 use Rattle.normal_form.specs.TraceLaws.{trace, TraceIsTotal, TraceIsFunctional}
 use Rattle.css_domain.specs.LedgerFacts.{filing_words}
-use Rattle.tile_rules.specs.declared.kind.Kind.{Kind}
-use Rattle.tile_rules.specs.Rules.{TilingRule, HasKeptLists}
-use Rattle.tile_rules.specs.Children.{raw_children}
-use Rattle.tile_rules.specs.Follows.{Follows}
-use Rattle.tile_rules.specs.Choices.{Packs, kinds_of}
+use Rattle.rule_kinds.specs.declared.kind.Kind.{Kind}
+use Rattle.rule_kinds.specs.Rules.{TilingRule, HasKeptLists}
+use Rattle.rule_kinds.specs.Children.{raw_children}
+use Rattle.rule_kinds.specs.Follows.{Follows}
+use Rattle.rule_kinds.specs.Choices.{Packs, kinds_of}
 use Rattle.tile_rules.specs.Complete.{IsComplete}
 use Rattle.tile_rules.specs.Meaning.{tile_meaning}
 use Rattle.work_packs.specs.BuiltLetters.{HasOnlyIAndN}

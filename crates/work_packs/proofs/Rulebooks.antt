@@ -2,8 +2,8 @@
 use Rattle.std.specs.Prelude.{◌≡◌, ◌<◌, ◌≤◌, ◌+◌, ℕ, Bool, true, false, cond, List, refl}
 use Rattle.std.proofs.Common.{arith, sym, subst}
 use Rattle.tiling_core.specs.Tiles.{Tiles}
-use Rattle.tile_rules.specs.Rules.{TilingRule}
-use Rattle.tile_rules.specs.Choices.{Packs}
+use Rattle.rule_kinds.specs.Rules.{TilingRule}
+use Rattle.rule_kinds.specs.Choices.{Packs}
 use Rattle.tile_rules.specs.Complete.{IsComplete, IsCompleteFor, rulebook_of}
 
 at_most : (b : Bool) (k : ℕ) → cond b k 0 ≤ k

@@ -25,12 +25,12 @@ use Rattle.tiling_core.specs.Patterns.{point_at, forbids, active_cells}
 use Rattle.steps.specs.Patterns.{requires_list}
 use Rattle.steps.specs.Steps.{is_nil}
 use Rattle.emptiness.proofs.SmallPatterns.{fit-point}
-use Rattle.tile_rules.specs.declared.kind.Kind.{Kind}
-use Rattle.tile_rules.specs.declared.kind.Kind.TheVariants as kind
-use Rattle.tile_rules.specs.Conditions as D
-use Rattle.tile_rules.specs.Children as C
-use Rattle.tile_rules.specs.Conditions.{applies, is_inferable, ascends}
-use Rattle.tile_rules.specs.Choices.{Packs, kinds_of, inferred, insertions, when, first_that_is}
+use Rattle.rule_kinds.specs.declared.kind.Kind.{Kind}
+use Rattle.rule_kinds.specs.declared.kind.Kind.TheVariants as kind
+use Rattle.rule_kinds.specs.Conditions as D
+use Rattle.rule_kinds.specs.Children as C
+use Rattle.rule_kinds.specs.Conditions.{applies, is_inferable, ascends}
+use Rattle.rule_kinds.specs.Choices.{Packs, kinds_of, inferred, insertions, when, first_that_is}
 use Rattle.work_packs.specs.BuiltLetters.{HasOnlyIAndN}
 use Rattle.work_packs.specs.KindLines.{closing_kinds, inferrals}
 use Rattle.work_packs.specs.RulesMade.{IsTried}

@@ -1,6 +1,6 @@
 -- Which letters have kinds that are built.
 use Rattle.std.specs.Prelude.{◌≡◌, false}
-use Rattle.tile_rules.specs.Choices.{Packs}
+use Rattle.rule_kinds.specs.Choices.{Packs}
 
 -- no letter but i and n is on
 pub record HasOnlyIAndN (packs : Packs) : Type 0 where

@@ -4,10 +4,10 @@ use Rattle.tiling_core.specs.Tiles.{Tiles}
 use Rattle.tiling_core.specs.Measures.{weight}
 use Rattle.tiling_core.specs.Patterns.{active_cells}
 use Rattle.steps.specs.Steps.{is_nil}
-use Rattle.tile_rules.specs.declared.kind.Kind.{Kind}
-use Rattle.tile_rules.specs.declared.kind.Kind.TheVariants as kind
-use Rattle.tile_rules.specs.Conditions.{applies}
-use Rattle.tile_rules.specs.Choices.{inferred, when, first_that_is}
+use Rattle.rule_kinds.specs.declared.kind.Kind.{Kind}
+use Rattle.rule_kinds.specs.declared.kind.Kind.TheVariants as kind
+use Rattle.rule_kinds.specs.Conditions.{applies}
+use Rattle.rule_kinds.specs.Choices.{inferred, when, first_that_is}
 
 -- the kinds without children: that of the unit or the point tiling, and else that of a tiling without members
 abbrev pub closing_kinds : Tiles → List Kind

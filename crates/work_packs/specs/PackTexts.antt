@@ -3,7 +3,7 @@ use Rattle.std.specs.Prelude.{ℕ, Bool, not, ◌&&◌, ◌==◌, if◌then◌el
 use Rattle.std.specs.List.{list_any, list_all}
 use Rattle.patterns.specs.Words.{has_no_repeats}
 use Rattle.steps.specs.Steps.{is_nil}
-use Rattle.tile_rules.specs.Choices.{Packs}
+use Rattle.rule_kinds.specs.Choices.{Packs}
 
 abbrev pub Text : Type 0
 Text = List ℕ

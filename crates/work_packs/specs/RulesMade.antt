@@ -4,12 +4,12 @@ use Rattle.tiling_core.specs.Tiles.{Tiles, IsTiling, IsKept}
 use Rattle.steps.specs.declared.step.Step.{Step}
 use Rattle.steps.specs.Traces.{replay}
 use Rattle.normal_form.specs.TraceLaws.{trace}
-use Rattle.tile_rules.specs.declared.kind.Kind.{Kind}
-use Rattle.tile_rules.specs.Kinds.{IsKept as IsKeptKind}
-use Rattle.tile_rules.specs.Rules.{TilingRule}
-use Rattle.tile_rules.specs.Children.{raw_children}
-use Rattle.tile_rules.specs.Built.{applies_now}
-use Rattle.tile_rules.specs.Follows.{Follows}
+use Rattle.rule_kinds.specs.declared.kind.Kind.{Kind}
+use Rattle.rule_kinds.specs.Kinds.{IsKept as IsKeptKind}
+use Rattle.rule_kinds.specs.Rules.{TilingRule}
+use Rattle.rule_kinds.specs.Children.{raw_children}
+use Rattle.rule_kinds.specs.Built.{applies_now}
+use Rattle.rule_kinds.specs.Follows.{Follows}
 
 -- the kind applies, and gives at most two children
 pub record IsTried (t : Tiles) (k : Kind) : Type 0 where

@@ -1,7 +1,7 @@
 ghost use Rattle.std.specs.Prelude.{◌≡◌, ◌++◌, ◌∷◌, [], IfOk, OnOk, filter, not};
 ghost use Rattle.steps.specs.Steps.{is_nil};
-ghost use Rattle.tile_rules.specs.Built.{applies_now};
-ghost use Rattle.tile_rules.specs.Choices.{insertions, kinds_of, when};
+ghost use Rattle.rule_kinds.specs.Built.{applies_now};
+ghost use Rattle.rule_kinds.specs.Choices.{insertions, kinds_of, when};
 ghost use Rattle.work_packs.specs.BuiltLetters.{HasOnlyIAndN};
 ghost use Rattle.work_packs.specs.KindLines.{closing_kinds, inferrals};
 
@@ -11,19 +11,8 @@ use gridded::Gridded;
 use insertion::arguments;
 use sequences::Sequence;
 use std::alloc::{AllocError, Global};
-use tile_rules::{Kind, RawFault, raw_children};
+use tile_rules::{Kind, applies};
 use tiling_core::Tiling;
-
-/// Whether a kind applies.
-fn applies(alloc: Global, tiling: &Tiling, kind: &Kind) -> Result<bool, AllocError>
-    ensures { IfOk result (λ it_does. it_does ≡ applies_now tiling.now kind.now) }
-{
-    match raw_children(alloc, tiling, kind) {
-        Ok(_) => Ok(true),
-        Err(RawFault::NotApplicable) => Ok(false),
-        Err(RawFault::Memory) => Err(AllocError),
-    }
-}
 
 /// Adds a kind where it applies.
 fn add_applying(

@@ -5,7 +5,7 @@ use normal_form::{normalise, traces_are_determined};
 use sequences::{Copied, Sequence};
 use std::alloc::{AllocError, Global};
 use steps::Step;
-use tile_rules::{Kind, TileRule, raw_children};
+use tile_rules::{Kind, TileRule, children_of};
 use tiling_core::Tiling;
 
 /// Fewer items than this are kept in one list.
@@ -49,9 +49,7 @@ fn rule_by(alloc: Global, tiling: &Tiling, kind: Kind) -> Result<TileRule, Alloc
 {
     // What a tiling keeps is known once it is read.
     let _ = tiling.width();
-    let Ok(raw) = raw_children(alloc, tiling, &kind) else {
-        return Err(AllocError);
-    };
+    let raw = children_of(alloc, tiling, &kind)?;
     let (children, traces) = all_reduced(alloc, raw)?;
     let parent = tiling.copy(alloc)?;
     let children = Sequence::of(children);

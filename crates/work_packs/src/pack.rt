@@ -20,7 +20,7 @@ pub struct Packs {
 }
 
 impl Model for Packs {
-    ghost use Rattle.tile_rules.specs.Choices.{Packs as Letters};
+    ghost use Rattle.rule_kinds.specs.Choices.{Packs as Letters};
 
     ghost Value = { Letters };
 

@@ -12,11 +12,18 @@ use Rattle.tiling_core.proofs.Single.{count_without_members, unit_has_one_member
 use Rattle.steps.proofs.Renamed.{steps_keep_members}
 use Rattle.normal_form.proofs.Tilings.{replays_keep_members}
 use Rattle.emptiness.proofs.Counted.{members_within_weight}
-use Rattle.tile_rules.specs.Counting.{RulesCount}
+use Rattle.insertion_law.proofs.Inserting.{insertions_carry_members}
+use Rattle.inferral_law.proofs.Inferring.{inferrals_carry_members, voids_carry_members}
+use Rattle.rule_kinds.specs.Carried.{MembersAreCarried}
+use Rattle.rule_kinds.specs.Counting.{RulesCount}
+use Rattle.tile_rules.specs.Laws.Carrying.{members_are_carried}
 use Rattle.tile_rules.specs.Laws.RuleCounts.{rules_count}
 
+do_carry : MembersAreCarried
+do_carry = members_are_carried insertions_carry_members (inferrals_carry_members members_within_weight) (voids_carry_members members_within_weight)
+
 pub rules_do_count : RulesCount
-rules_do_count = rules_count unit_has_one_member point_has_one_member members_within_weight counts_add_up (replays_keep_members (steps_keep_members renaming_keeps_counts))
+rules_do_count = rules_count unit_has_one_member point_has_one_member members_within_weight counts_add_up (replays_keep_members (steps_keep_members renaming_keeps_counts)) do_carry
 
 -- the gridded permutation without points holds the empty pattern alone
 held_by_none : (p : List Point) → holds [] p ≡ true → p ≡ []

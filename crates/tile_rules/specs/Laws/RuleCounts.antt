@@ -14,21 +14,20 @@ use Rattle.steps.specs.declared.step.Step.{Step}
 use Rattle.steps.specs.Traces.{replay}
 use Rattle.normal_form.specs.TraceLaws.{ReplaysKeepMembers}
 use Rattle.emptiness.specs.Emptiness.{MembersWithinWeight}
-use Rattle.tile_rules.specs.Rules.{TilingRule}
-use Rattle.tile_rules.specs.declared.kind.Kind.{Kind}
-use Rattle.tile_rules.specs.declared.kind.Kind.TheVariants as kind
-use Rattle.tile_rules.specs.Children.{raw_children}
-use Rattle.tile_rules.specs.Conditions as D
-use Rattle.tile_rules.specs.Conditions.{applies, has_no_member, is_inferable}
-use Rattle.tile_rules.specs.Built.{is_built}
+use Rattle.rule_kinds.specs.Rules.{TilingRule}
+use Rattle.rule_kinds.specs.declared.kind.Kind.{Kind}
+use Rattle.rule_kinds.specs.declared.kind.Kind.TheVariants as kind
+use Rattle.rule_kinds.specs.Children.{raw_children}
+use Rattle.rule_kinds.specs.Conditions as D
+use Rattle.rule_kinds.specs.Conditions.{applies, has_no_member, is_inferable}
+use Rattle.rule_kinds.specs.Built.{is_built}
 use Rattle.css_domain.specs.declared.Shape.TheVariants.{Union}
-use Rattle.tile_rules.specs.Kinds.{shape_of}
-use Rattle.tile_rules.specs.Carried.{MembersAreCarried, has_one_image, numbered_image, from_image}
-use Rattle.tile_rules.specs.Laws.Applied.{applying, never_applying}
-use Rattle.tile_rules.specs.Laws.Carrying.{members_are_carried}
-use Rattle.tile_rules.specs.Counting.{CountsCombine, RulesCount}
-use Rattle.tile_rules.specs.Follows.{Follows}
-use Rattle.tile_rules.specs.Laws.NoMembers.{none_of_any_length}
+use Rattle.rule_kinds.specs.Kinds.{shape_of}
+use Rattle.rule_kinds.specs.Carried.{MembersAreCarried, has_one_image, numbered_image, from_image}
+use Rattle.rule_kinds.proofs.Applied.{applying, never_applying}
+use Rattle.rule_kinds.specs.Counting.{CountsCombine, RulesCount}
+use Rattle.rule_kinds.specs.Follows.{Follows}
+use Rattle.rule_kinds.proofs.NoMembers.{none_of_any_length}
 
 abbrev replayed_from : List Tiles → List (List Step) → List (Option Tiles)
 replayed_from raws traces = map (λ (p : Tiles × List Step). replay p.0 p.1) (zip raws traces)
@@ -74,12 +73,9 @@ union_counts adds carried keeps r f one e n =
 unbuilt : (r : TilingRule) → Follows r → is_built r.kind ≡ false → CountsCombine r
 unbuilt r f e = absurd (never_applying r.parent r.kind e f.condition)
 
-pub rules_count : UnitHasOneMember → PointHasOneMember → MembersWithinWeight → CountsAddUp → ReplaysKeepMembers → RulesCount
-rules_count unit point within adds keeps r f = by_kind r.kind refl
+pub rules_count : UnitHasOneMember → PointHasOneMember → MembersWithinWeight → CountsAddUp → ReplaysKeepMembers → MembersAreCarried → RulesCount
+rules_count unit point within adds keeps carried r f = by_kind r.kind refl
   where
-    carried : MembersAreCarried
-    carried = members_are_carried within
-
     by_kind : (k : Kind) → r.kind ≡ k → CountsCombine r
     by_kind kind.Unit e = unit_counts unit r f e
     by_kind kind.Point e = point_counts point r f e

@@ -2,11 +2,11 @@ use Rattle.std.proofs.Common.{◌≡◌, ◌∙◌, sym, ap, length, true}
 use Rattle.std.specs.Prelude.{IsTrue, ◌↔◌, All}
 use Rattle.std.proofs.lemmas.Result.{IfOk-weaker}
 use Rattle.tiling_core.specs.Tiles.{IsTiling}
-use Rattle.tile_rules.specs.Replayed.{AreReplays}
-use Rattle.tile_rules.specs.Kinds.{IsKept}
-use Rattle.tile_rules.specs.Children.{raw_children}
-use Rattle.tile_rules.specs.Built.{applies_now}
-use Rattle.tile_rules.specs.Follows.{Follows}
+use Rattle.rule_kinds.specs.Replayed.{AreReplays}
+use Rattle.rule_kinds.specs.Kinds.{IsKept}
+use Rattle.rule_kinds.specs.Children.{raw_children}
+use Rattle.rule_kinds.specs.Built.{applies_now}
+use Rattle.rule_kinds.specs.Follows.{Follows}
 use Rattle.tile_rules.proofs.Checked.{other_children, decided}
 use Rattle.tile_rules.proofs.check.check_rule.Goals as goal
 

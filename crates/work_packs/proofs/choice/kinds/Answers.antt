@@ -1,6 +1,6 @@
 use Rattle.std.proofs.Common.{◌≡◌, [], ◌∷◌, sym, ap, ◌∙◌}
 use Rattle.std.proofs.lemmas.Result.{IfOk-weaker}
-use Rattle.tile_rules.specs.Choices.{Packs, kinds_of, when, insertions}
+use Rattle.rule_kinds.specs.Choices.{Packs, kinds_of, when, insertions}
 use Rattle.work_packs.specs.KindLines.{closing_kinds, inferrals}
 use Rattle.work_packs.proofs.KindLists.{by_lines, listed_first, listed_later, listed_last, some_listed, none_listed}
 use Rattle.work_packs.proofs.choice.kinds.Goals as goal

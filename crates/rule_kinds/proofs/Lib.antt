@@ -1,0 +1,13 @@
+pub mod Texts
+pub mod Entries
+pub mod CarryRows
+pub mod ChildRows
+pub mod LawRows
+pub mod PlaceRows
+pub mod TriedRows
+pub mod Joined
+pub mod ListTests
+pub mod Applied
+pub mod NoMembers
+pub mod Inferred
+pub mod Inferring

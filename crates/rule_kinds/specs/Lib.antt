@@ -1,0 +1,14 @@
+pub mod Pointeds
+pub mod Lines
+pub mod Kinds
+pub mod Rules
+pub mod Children
+pub mod Conditions
+pub mod Built
+pub mod Replayed
+pub mod Follows
+pub mod Carry
+pub mod Carried
+pub mod Choices
+pub mod Least
+pub mod Counting

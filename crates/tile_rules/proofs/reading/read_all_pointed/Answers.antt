@@ -1,8 +1,0 @@
-use Rattle.std.proofs.Common.{arith}
-use Rattle.std.proofs.lemmas.List.Elements.{All-from_get_or}
-use Rattle.tile_rules.specs.Kinds.{IsPointed}
-use Rattle.tile_rules.proofs.Checked.{nothing_pointed}
-use Rattle.tile_rules.proofs.reading.read_all_pointed.Goals as goal
-
-pub returns : goal.returns
-returns c = All-from_get_or (λ x. IsPointed x) c.args.all.now nothing_pointed (λ k below. c.loop-pointed.invariant k (omega arith))
