@@ -1,16 +1,18 @@
 -- Points that are placed one after another.
 use Rattle.std.proofs.Common.{◌≡◌, ℕ, zero, suc, ◌+◌, ◌<◌, ◌≤◌, Bool, true, false, List, [], ◌∷◌, ◌++◌, length, get_or, set, take, drop, refl, sym, ap, ◌∙◌, subst, arith}
-use Rattle.std.specs.Prelude.{◌&&◌, All}
-use Rattle.std.specs.List.{list_all, AllByRecursion}
+use Rattle.std.specs.Prelude.{◌&&◌, ◌||◌, not, nat_le, ◌==◌, min, max, All}
+use Rattle.std.specs.List.{list_all, list_any, AllByRecursion}
+use Rattle.std.proofs.lemmas.Bool.Decides.{nat_tests, Decides-eqb}
 use Rattle.std.proofs.lemmas.List.{length-map, length-take-le, take_more, take_more_set}
 use Rattle.std.proofs.lemmas.List.Elements.{All-from_recursion, recursion_from_All}
-use Rattle.patterns.proofs.Booleans.{and_true, both_true, and_none, and_end}
+use Rattle.patterns.proofs.Booleans.{and_true, both_true, and_end}
 use Rattle.gridded.specs.declared.cell.Cell.{Cell}
 use Rattle.gridded.specs.Grids.{Point, points, letter_of, may_follow, is_consistent, IsGridded, FitTogether}
 use Rattle.gridded.specs.Orders.{letters_of, cells_of}
 use Rattle.gridded.specs.PointLaws.{letters_of-points, length-points}
 use Rattle.coord_maps.proofs.Moves.{so_is_true}
-use Rattle.coord_maps.specs.Preimages.{may_come, placed_points, point_at}
+use Rattle.coord_maps.specs.Preimages.{may_come, put, placed_points, point_at}
+use Rattle.patterns.specs.Words.{has_no_repeats}
 
 points-push : (letters : List ℕ) (cells : List Cell) (l : ℕ) (c : Cell) → length letters ≡ length cells → points (letters ++ l ∷ []) (cells ++ c ∷ []) ≡ points letters cells ++ record { letter = l; cell = c } ∷ []
 points-push [] [] l c e = refl
@@ -42,21 +44,51 @@ come-push (r ∷ s) p q = rw (come-push s p q) (regrouped (may_follow r q) (may_
     regrouped true b c = refl
     regrouped false b c = refl
 
-pub come-more : (g : List Point) (cells : List Cell) (n : ℕ) (d : Cell) (q : Point) → n < length g → n < length cells → may_come (placed_points g cells n) q ≡ true → may_follow (record { letter = get_or (letters_of g) n 0; cell = get_or cells n d }) q ≡ true → may_come (placed_points g cells (n + 1)) q ≡ true
-come-more g cells n d q h k e f =
-    rw (placed-more g cells n d h k) (come-push (placed_points g cells n) (record { letter = get_or (letters_of g) n 0; cell = get_or cells n d }) q ∙ both_true _ _ e f)
+-- one more point: it may come right of one more, and above or below it
+narrower_below : (a b : ℕ) (c : Cell) (x y left low top : ℕ) → b < a
+    → ((nat_le left x && (nat_le low y && nat_le y top)) && may_follow (record { letter = b; cell = c }) (record { letter = a; cell = record { x = x; y = y } })) ≡ (nat_le (max left c.x) x && (nat_le (max low c.y) y && nat_le y top))
+narrower_below a b c x y left low top h = grind (arith, nat_tests)
 
--- one point that may not be followed
-come-fails-at : (letters : List ℕ) (cells : List Cell) (i n : ℕ) (d : Cell) (q : Point) → i < n → n ≤ length letters → n ≤ length cells → may_follow (record { letter = get_or letters i 0; cell = get_or cells i d }) q ≡ false → may_come (points (take n letters) (take n cells)) q ≡ false
-come-fails-at letters cells i zero d q h k l e = absurd (omega arith)
-come-fails-at [] cells i (suc n) d q h k l e = absurd (omega arith)
-come-fails-at (a ∷ letters) [] i (suc n) d q h k l e = absurd (omega arith)
-come-fails-at (a ∷ letters) (c ∷ cells) zero (suc n) d q h k l e = rw e refl
-come-fails-at (a ∷ letters) (c ∷ cells) (suc i) (suc n) d q h k l e =
-    rw (come-fails-at letters cells i n d q (omega arith) (omega arith) (omega arith) e) (and_none (may_follow (record { letter = a; cell = c }) q))
+narrower_above : (a b : ℕ) (c : Cell) (x y left low top : ℕ) → a < b
+    → ((nat_le left x && (nat_le low y && nat_le y top)) && may_follow (record { letter = b; cell = c }) (record { letter = a; cell = record { x = x; y = y } })) ≡ (nat_le (max left c.x) x && (nat_le low y && nat_le y (min top c.y)))
+narrower_above a b c x y left low top h = grind (arith, nat_tests)
 
-pub come-fails : (g : List Point) (cells : List Cell) (i n : ℕ) (d : Cell) (q : Point) → i < n → n ≤ length g → n ≤ length cells → may_follow (record { letter = get_or (letters_of g) i 0; cell = get_or cells i d }) q ≡ false → may_come (placed_points g cells n) q ≡ false
-come-fails g cells i n d q h k l e = come-fails-at (letters_of g) cells i n d q h (rw (letters_as_long g) k) l e
+pub room-below : (g : List Point) (cells : List Cell) (n : ℕ) (d : Cell) (a x y left low top : ℕ) → n < length g → n < length cells → get_or (letters_of g) n 0 < a
+    → may_come (placed_points g cells n) (record { letter = a; cell = record { x = x; y = y } }) ≡ (nat_le left x && (nat_le low y && nat_le y top))
+    → may_come (placed_points g cells (n + 1)) (record { letter = a; cell = record { x = x; y = y } }) ≡ (nat_le (max left (get_or cells n d).x) x && (nat_le (max low (get_or cells n d).y) y && nat_le y top))
+room-below g cells n d a x y left low top h k l e =
+    rw (placed-more g cells n d h k) (come-push (placed_points g cells n) (record { letter = get_or (letters_of g) n 0; cell = get_or cells n d }) (record { letter = a; cell = record { x = x; y = y } })
+    ∙ rw e (narrower_below a (get_or (letters_of g) n 0) (get_or cells n d) x y left low top l))
+
+pub room-above : (g : List Point) (cells : List Cell) (n : ℕ) (d : Cell) (a x y left low top : ℕ) → n < length g → n < length cells → a < get_or (letters_of g) n 0
+    → may_come (placed_points g cells n) (record { letter = a; cell = record { x = x; y = y } }) ≡ (nat_le left x && (nat_le low y && nat_le y top))
+    → may_come (placed_points g cells (n + 1)) (record { letter = a; cell = record { x = x; y = y } }) ≡ (nat_le (max left (get_or cells n d).x) x && (nat_le low y && nat_le y (min top (get_or cells n d).y)))
+room-above g cells n d a x y left low top h k l e =
+    rw (placed-more g cells n d h k) (come-push (placed_points g cells n) (record { letter = get_or (letters_of g) n 0; cell = get_or cells n d }) (record { letter = a; cell = record { x = x; y = y } })
+    ∙ rw e (narrower_above a (get_or (letters_of g) n 0) (get_or cells n d) x y left low top l))
+
+-- letters at two places differ
+none_at : (t : ℕ → Bool) (ls : List ℕ) (j : ℕ) → not (list_any t ls) ≡ true → j < length ls → t (get_or ls j 0) ≡ false
+none_at t [] j e h = absurd (omega arith)
+none_at t (l ∷ ls) zero e h = first (t l) (list_any t ls) e
+  where
+    first : (a b : Bool) → not (a || b) ≡ true → a ≡ false
+    first true b e = absurd cc
+    first false b e = refl
+none_at t (l ∷ ls) (suc j) e h = none_at t ls j (rest (t l) (list_any t ls) e) (omega arith)
+  where
+    rest : (a b : Bool) → not (a || b) ≡ true → not b ≡ true
+    rest true b e = absurd cc
+    rest false b e = e
+
+pub letters_differ : (ls : List ℕ) (i j : ℕ) → has_no_repeats ls ≡ true → i < j → j < length ls → get_or ls i 0 ≡ get_or ls j 0 → ⊥
+letters_differ [] i j d h k e = absurd (omega arith)
+letters_differ (l ∷ ls) i zero d h k e = absurd (omega arith)
+letters_differ (l ∷ ls) zero (suc j) d h k e =
+    let other = none_at (λ y. l == y) ls j (and_true (not (list_any (λ y. l == y) ls)) (has_no_repeats ls) d).0 (omega arith) in
+    let same = (Decides-eqb l (get_or ls j 0)).1 e in
+    (let clash : true ≡ false = sym same ∙ other in cc)
+letters_differ (l ∷ ls) (suc i) (suc j) d h k e = letters_differ ls i j (and_true (not (list_any (λ y. l == y) ls)) (has_no_repeats ls) d).1 (omega arith) (omega arith) e
 
 pub consistent-push : (s : List Point) (q : Point) → is_consistent s ≡ true → may_come s q ≡ true → is_consistent (s ++ q ∷ []) ≡ true
 consistent-push [] q e f = refl
@@ -74,6 +106,10 @@ pub letter_at : (g : List Point) (n : ℕ) → n < length g → get_or (letters_
 letter_at [] n h = absurd (omega arith)
 letter_at (p ∷ g) zero h = refl
 letter_at (p ∷ g) (suc n) h = letter_at g n (omega arith)
+
+-- the next point, put in a cell
+pub placed-put : (g : List Point) (cells : List Cell) (n x y : ℕ) → n < length g → n < length cells → placed_points g (set cells n (record { x = x; y = y })) (n + 1) ≡ placed_points g cells n ++ put (point_at g n) x y ∷ []
+placed-put g cells n x y h k = placed-next g cells n (record { x = x; y = y }) h k ∙ ap (λ letter. placed_points g cells n ++ record { letter = letter; cell = record { x = x; y = y } } ∷ []) (letter_at g n h)
 
 pub cell_at_place : (g : List Point) (n : ℕ) (d : Cell) → n < length g → get_or (cells_of g) n d ≡ (point_at g n).cell
 cell_at_place [] n d h = absurd (omega arith)

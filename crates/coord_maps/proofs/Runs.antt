@@ -40,6 +40,9 @@ filter_run t a (suc n) f (suc l) h k e =
 pub run_within : (m : Cut) (old : ℕ) → IsCut m → old < m.lines → first_line m old + parts_of m old ≤ new_lines m
 run_within m old k h = let p = k.some_parts in grind (arith, nat_tests)
 
+pub some_part : (m : Cut) (old : ℕ) → IsCut m → 0 < parts_of m old
+some_part m old k = let p = k.some_parts in grind (arith, nat_tests)
+
 pub lines_filtered : (m : Cut) (old : ℕ) → IsCut m → old < m.lines → filter (λ i. nat_eq (old_line m i) old) (range_with_len 0 (new_lines m)) ≡ lines_over m old
 lines_filtered m old k h =
     filter_run (λ i. nat_eq (old_line m i) old) 0 (new_lines m) (first_line m old) (parts_of m old) (omega arith) (omega (arith, run_within m old k h))

@@ -1,35 +1,53 @@
-ghost use Rattle.std.specs.Prelude.{◌≡◌, ◌<◌, ◌≤◌, ◌++◌, true, length, drop, slice_index, IfOk};
+ghost use Rattle.std.specs.Prelude.{◌≡◌, ◌<◌, ◌≤◌, ◌++◌, true, length, drop, IfOk};
 ghost use Rattle.std.specs.List.Sorted.{IsStrictlySortedBy};
-ghost use Rattle.gridded.specs.Grids.{IsGridded, may_follow, is_consistent};
-ghost use Rattle.gridded.specs.Orders.{letters_of, gridded_cmp};
+ghost use Rattle.gridded.specs.Grids.{IsGridded, is_consistent};
+ghost use Rattle.gridded.specs.Orders.{gridded_cmp};
 ghost use Rattle.coord_maps.specs.GridMaps.{fits_old};
-ghost use Rattle.coord_maps.specs.Preimages.{preimages, completions, may_come, placed_points};
+ghost use Rattle.coord_maps.specs.Preimages.{preimages, completions, placed_points, point_at};
+ghost use Rattle.coord_maps.specs.Rooms.{IsRoom};
 
 use crate::grid_map::GridMap;
 use gridded::{Cell, Gridded};
 use std::alloc::{AllocError, Global};
 
-/// Whether a point may stand right of another.
-fn may_follow(letter: u8, cell: Cell, next: u8, next_cell: Cell) -> bool
-    ensures { result ≡ may_follow (record { letter = letter; cell = cell }) (record { letter = next; cell = next_cell }) }
-{
-    cell.x <= next_cell.x
-        && (!(letter < next && next_cell.y < cell.y) && !(next < letter && cell.y < next_cell.y))
+/// The new columns from `left` to below `right`, and the new rows from `low` to `top`.
+#[derive(Clone, Copy)]
+struct Room {
+    left: u8,
+    right: u8,
+    low: u8,
+    top: u8,
 }
 
-/// Whether the point at place `placed` may be in a cell, where the points before it are in `cells`.
-fn may_come(g: &Gridded, cells: &[Cell; 9], placed: usize, cell: Cell) -> bool
-    requires { placed < length g.now }
-    ensures { result ≡ may_come (placed_points g.now cells.now placed) (record { letter = slice_index (letters_of g.now) placed; cell = cell }) }
+/// Where the point at place `placed` may be: in the new cells that go to its own, right of the points before it,
+/// whose cells are given, above those with lower letters and below those with higher ones.
+fn room_of(map: &GridMap, g: &Gridded, cells: &[Cell; 9], placed: usize) -> Room
+    requires inside { fits_old map.now g.now ≡ true }
+    requires within { placed < length g.now }
+    ensures { IsRoom map.now (placed_points g.now cells.now placed) (point_at g.now placed) result }
 {
+    map.kept();
     let letters = g.letters();
     let letter = letters[placed];
+    let old = g.cells()[placed];
+    let mut left = map.columns.first_line(old.x);
+    let mut low = map.rows.first_line(old.y);
+    let mut top = map.rows.end_line(old.y) - 1;
     for place in 0..placed {
-        if !may_follow(letters[place], cells[place], letter, cell) {
-            return false;
+        let cell = cells[place];
+        left = left.max(cell.x);
+        if letters[place] < letter {
+            low = low.max(cell.y);
+        } else {
+            top = top.min(cell.y);
         }
     }
-    true
+    Room {
+        left,
+        right: map.columns.end_line(old.x),
+        low,
+        top,
+    }
 }
 
 /// Adds the preimages whose first points are in some cells, in ascending order.
@@ -51,26 +69,20 @@ fn list_from(
         found.push(Gridded::from_consistent(letters, &cells[..placed]))?;
         return Ok(());
     }
-    let old = g.cells()[placed];
-    for x in map.columns.first_line(old.x)..map.columns.end_line(old.x) {
-        for y in map.rows.first_line(old.y)..map.rows.end_line(old.y) {
-            let cell = Cell { x, y };
-            if may_come(g, &cells, placed, cell) {
-                let mut longer = cells;
-                longer[placed] = cell;
-                list_from(map, g, longer, placed + 1, found)?;
-            }
+    let room = room_of(map, g, &cells, placed);
+    for x in room.left..room.right {
+        for y in room.low..room.top + 1 {
+            let mut longer = cells;
+            longer[placed] = Cell { x, y };
+            list_from(map, g, longer, placed + 1, found)?;
         }
     }
     Ok(())
 }
 
-/// Adds the gridded permutations of the new grid that collapse to `g`, in ascending order.
-pub(crate) fn add_preimages(
-    map: &GridMap,
-    g: &Gridded,
-    found: &mut Vec<Gridded>,
-) -> Result<(), AllocError>
+/// Adds all gridded permutations of the new grid that collapse to `g` at the end of a list, in ascending order.
+/// `g` lies in the old grid (docs/RULES.md, "Grid maps").
+pub fn add_preimages(map: &GridMap, g: &Gridded, found: &mut Vec<Gridded>) -> Result<(), AllocError>
     requires { fits_old map.now g.now ≡ true }
     ensures added { IfOk result (λ _. found.new.items ≡ found.old.items ++ preimages map.now g.now) }
     ensures ascending { IfOk result (λ _. IsStrictlySortedBy gridded_cmp (preimages map.now g.now)) }
