@@ -1,5 +1,5 @@
 -- One step of the search, over the places of slices.
-use Rattle.std.proofs.Common.{◌≡◌, ℕ, zero, suc, ◌+◌, ◌<◌, ◌≤◌, Bool, true, false, List, [], ◌∷◌, ◌++◌, length, get_or, take, drop, set, refl, sym, ap, ◌∙◌, arith}
+use Rattle.std.proofs.Common.{◌≡◌, ℕ, zero, suc, ◌+◌, ◌<◌, ◌≤◌, Bool, true, false, List, [], ◌∷◌, ◌++◌, length, get_or, take, drop, set, refl, sym, ap, ◌∙◌, arith, ◌-◌, length-drop}
 use Rattle.std.specs.Prelude.{◌&&◌, ◌||◌, ◌↔◌, IsTrue, map}
 use Rattle.std.proofs.lemmas.List.{take_more, take_more_set, drop_more, drop_all, length-take-le, get_or-take, get_or_default, map_push}
 use Rattle.patterns.specs.Occurs.{stands_as, stand_alike}
@@ -29,14 +29,27 @@ pub found_step : (chosen pattern letters : List ℕ) (cells pattern_cells : List
 found_step chosen pattern letters cells pattern_cells taken from h k l e f =
     rw (drop-points from letters cells corner l e, drop-points taken pattern pattern_cells corner k f, take_more_set chosen taken (get_or letters from 0) h, take_more pattern taken 0 k)
 
-pub found_none : (xs ys pattern letters : List ℕ) (cells pattern_cells : List Cell) (taken from : ℕ) → taken < length pattern → length letters ≤ from → length letters ≡ length cells → length pattern ≡ length pattern_cells → found xs ys (drop from (points letters cells)) (drop taken (points pattern pattern_cells)) ≡ false
-found_none xs ys pattern letters cells pattern_cells taken from k l e f =
-    rw (drop_all from (points letters cells) (rw (length-points letters cells e) l), drop-points taken pattern pattern_cells corner k f)
+-- nothing is found where too few points are left
+found_short : (xs ys : List ℕ) (w p : List Point) → length w < length p → found xs ys w p ≡ false
+found_short xs ys w [] h = absurd (omega arith)
+found_short xs ys [] (y ∷ p) h = refl
+found_short xs ys (x ∷ w) (y ∷ p) h =
+    neither (same_cell x y) (letters_fit x.letter y.letter xs ys) (found (xs ++ x.letter ∷ []) (ys ++ y.letter ∷ []) w p) (found xs ys w (y ∷ p)) (found_short (xs ++ x.letter ∷ []) (ys ++ y.letter ∷ []) w p (omega arith)) (found_short xs ys w (y ∷ p) (omega arith))
+  where
+    neither : (a b c d : Bool) → c ≡ false → d ≡ false → (a && b && c || d) ≡ false
+    neither true true c d e f = rw (e, f) refl
+    neither true false c d e f = f
+    neither false b c d e f = f
+
+pub found_few : (xs ys pattern letters : List ℕ) (cells pattern_cells : List Cell) (taken from : ℕ) → length letters - from < length pattern - taken → length letters ≡ length cells → length pattern ≡ length pattern_cells → found xs ys (drop from (points letters cells)) (drop taken (points pattern pattern_cells)) ≡ false
+found_few xs ys pattern letters cells pattern_cells taken from h e f =
+    found_short xs ys (drop from (points letters cells)) (drop taken (points pattern pattern_cells))
+    (omega (arith, length-drop from (points letters cells), length-drop taken (points pattern pattern_cells), length-points letters cells e, length-points pattern pattern_cells f))
 
 pub found_end : (xs ys pattern : List ℕ) (w : List Point) (pattern_cells : List Cell) (taken : ℕ) → length pattern ≤ taken → length pattern ≡ length pattern_cells → found xs ys w (drop taken (points pattern pattern_cells)) ≡ true
 found_end xs ys pattern w pattern_cells taken k f = rw (drop_all taken (points pattern pattern_cells) (rw (length-points pattern pattern_cells f) k))
 
-pub ruleset stepping = (found_step, found_none, found_end)
+pub ruleset stepping = (found_step, found_few, found_end)
 
 pub ruleset reading = (get_or_default)
 

@@ -26,7 +26,8 @@ fn may_stand(
     cell == pattern_cells[taken] && fits_next(chosen, pattern, taken, letter)
 }
 
-/// Whether the rest of the pattern is found in the points from a place on, after some letters were chosen.
+/// Whether the rest of the pattern is found in the points from a place on, after some letters were chosen. Where
+/// fewer points are left than the rest has, it isn't.
 #[tactic(auto, using(crate::proofs::Searches::stepping))]
 fn extends(
     letters: &[u8],
@@ -47,7 +48,7 @@ fn extends(
     if taken == pattern.len() {
         return true;
     }
-    if from == letters.len() {
+    if letters.len() - from < pattern.len() - taken {
         return false;
     }
     let letter = letters[from];
