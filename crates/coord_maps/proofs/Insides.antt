@@ -12,7 +12,8 @@ use Rattle.patterns.proofs.Lists.{from_IsIn-map, from_IsIn-filter}
 use Rattle.patterns.proofs.NoRepeat.{from_IsIn-flat_map, IsIn-range_with_len, from_IsIn-words}
 use Rattle.gridded.specs.Grids.{Point, cells_in, points_in, gridded_of, is_gridded}
 use Rattle.gridded.specs.Orders.{gridded_eq}
-use Rattle.tiling_core.specs.Tiles.{fits_grid, IsInGrid}
+use Rattle.gridded.specs.Places.{fits_grid}
+use Rattle.tiling_core.specs.Tiles.{IsInGrid}
 use Rattle.coord_maps.specs.declared.grid_map.GridMap.{GridMap}
 use Rattle.coord_maps.specs.LineMaps.{new_lines}
 use Rattle.coord_maps.specs.GridMaps.{collapse, fits_new}

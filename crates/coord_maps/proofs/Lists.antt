@@ -18,7 +18,7 @@ use Rattle.coord_maps.specs.declared.grid_map.GridMap.{GridMap}
 use Rattle.coord_maps.specs.LineMaps.{new_lines}
 use Rattle.coord_maps.specs.GridMaps.{IsGridMap, old_cell, collapse, fits_old}
 use Rattle.coord_maps.specs.Preimages.{preimages, lines_over, may_come, put, completions}
-use Rattle.coord_maps.proofs.Moves.{letters_moved}
+use Rattle.gridded.proofs.Moved.{letters_moved}
 use Rattle.coord_maps.proofs.Runs.{cell_at, cells_filtered}
 
 -- ---- lists

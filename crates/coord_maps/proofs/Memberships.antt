@@ -12,13 +12,16 @@ use Rattle.gridded.specs.Grids.{Point, gridded_of, IsGridded}
 use Rattle.gridded.specs.Orders.{letters_of, cells_of, gridded_eq}
 use Rattle.gridded.specs.OrderLaws.{gridded_eq_decides}
 use Rattle.gridded.specs.Laws.{IsCellOf, GriddedAreListed, GriddedAreListedOnce}
-use Rattle.tiling_core.specs.Tiles.{fits_grid}
+use Rattle.gridded.specs.Places.{fits_grid}
 use Rattle.coord_maps.specs.declared.grid_map.GridMap.{GridMap}
 use Rattle.coord_maps.specs.LineMaps.{Cut, IsCut, new_lines, old_line}
-use Rattle.coord_maps.specs.GridMaps.{IsGridMap, old_cell, moved, collapse, fits_new, fits_old}
+use Rattle.coord_maps.specs.GridMaps.{IsGridMap, old_cell, collapse, fits_new, fits_old}
+use Rattle.gridded.specs.Moved.{moved}
 use Rattle.coord_maps.specs.Preimages.{preimages}
 use Rattle.coord_maps.specs.Laws.{IsPreimage, PreimagesAreListed, PreimagesAreListedOnce, CollapseIsGridded}
-use Rattle.coord_maps.proofs.Moves.{letters_moved, is_true_so, consistent_collapse}
+use Rattle.gridded.proofs.Moved.{letters_moved}
+use Rattle.gridded.proofs.Holding.{is_true}
+use Rattle.coord_maps.proofs.Moves.{consistent_collapse}
 use Rattle.coord_maps.proofs.Placed.{gridded_below}
 use Rattle.coord_maps.proofs.Insides.{preimage_fits}
 
@@ -39,7 +42,7 @@ preimage_is_listed listed m g h k p =
     IsIn-filter (λ r. gridded_eq (collapse m r) g) ((listed (new_lines m.columns) (new_lines m.rows) (length g) h).1 (record {
       as_long = sym (length-map h (moved (old_cell m))) ∙ ap (λ r. length r) p.collapses;
       below = subst (λ ls. AllByRecursion (λ l. l < length g) ls) (sym letters) (letters_below (length g) g (gridded_below g k));
-      distinct = ap has_no_repeats letters ∙ is_true_so _ k.distinct;
+      distinct = ap has_no_repeats letters ∙ is_true _ k.distinct;
       consistent = p.consistent;
       in_grid = cells_inside (new_lines m.columns) (new_lines m.rows) h p.inside;
     })) ((gridded_eq_decides (collapse m h) g).1 p.collapses)

@@ -10,7 +10,10 @@ use Rattle.gridded.specs.declared.cell.Cell.{Cell}
 use Rattle.gridded.specs.Grids.{Point, points, letter_of, may_follow, is_consistent, IsGridded, FitTogether}
 use Rattle.gridded.specs.Orders.{letters_of, cells_of}
 use Rattle.coord_maps.specs.LineMaps.{Cut, old_line}
-use Rattle.coord_maps.specs.GridMaps.{old_cell, old_cells, moved, move_cells, collapse}
+use Rattle.coord_maps.specs.GridMaps.{old_cell, old_cells, collapse}
+use Rattle.gridded.specs.Moved.{moved, move_cells}
+use Rattle.gridded.proofs.Moved.{points-moved, IsGridded-moved}
+use Rattle.gridded.proofs.Holding.{is_true}
 use Rattle.coord_maps.specs.declared.grid_map.GridMap.{GridMap}
 
 old_line_rises : (m : Cut) (a b : ℕ) → a ≤ b → old_line m a ≤ old_line m b
@@ -49,41 +52,13 @@ module _ (f : Cell → Cell) (k : KeepsOrder f) where
   consistent_moved [] e = refl
   consistent_moved (p ∷ g) e = let a = and_true (list_all (λ q. may_follow p q) g) (is_consistent g) e in both_true _ _ (all_follow_moved p g a.0) (consistent_moved g a.1)
 
-pub letters_moved : (f : Cell → Cell) (g : List Point) → letters_of (move_cells f g) ≡ letters_of g
-letters_moved f [] = refl
-letters_moved f (p ∷ g) = ap (λ l. p.letter ∷ l) (letters_moved f g)
-
 pub consistent_collapse : (m : GridMap) (g : List Point) → is_consistent g ≡ true → is_consistent (collapse m g) ≡ true
 consistent_collapse m g e = consistent_moved (old_cell m) (old_cell_keeps m) g e
-
-pub is_true_so : (b : Bool) → IsTrue b → b ≡ true
-is_true_so true h = refl
-is_true_so false h = h
-
-pub so_is_true : (b : Bool) → b ≡ true → IsTrue b
-so_is_true true e = refl
-so_is_true false e = e
-
--- a collapse is gridded
-gridded_collapse : (m : GridMap) (g : List Point) → IsGridded g → IsGridded (collapse m g)
-gridded_collapse m g h =
-    let n = length-map g (moved (old_cell m)) in
-    record {
-      short = rw n h.short;
-      below = subst (λ k. All (λ (p : Point). p.letter < k) (collapse m g)) (sym n) (All-map (λ (p : Point). p.letter < length g) (moved (old_cell m)) g h.below);
-      distinct = rw (letters_moved (old_cell m) g) h.distinct;
-      consistent = so_is_true _ (consistent_collapse m g (is_true_so _ h.consistent));
-    }
-
--- the same letters over other cells
-pub points_of_moved : (f : Cell → Cell) (g : List Point) → points (letters_of g) (map f (cells_of g)) ≡ move_cells f g
-points_of_moved f [] = refl
-points_of_moved f (p ∷ g) = ap (λ rest. moved f p ∷ rest) (points_of_moved f g)
 
 pub collapsed_together : (m : GridMap) (g : List Point) → IsGridded g → FitTogether (letters_of g) (old_cells m (cells_of g))
 collapsed_together m g h = record {
   as_many = length-map g letter_of ∙ sym (length-map (cells_of g) (old_cell m) ∙ length-map g (λ (p : Point). p.cell));
-  gridded = rw (points_of_moved (old_cell m) g) (gridded_collapse m g h);
+  gridded = rw (points-moved (old_cell m) g) (IsGridded-moved (old_cell m) g h (consistent_collapse m g (is_true _ h.consistent)));
 }
 
 -- one more cell

@@ -10,7 +10,7 @@ use Rattle.gridded.specs.declared.cell.Cell.{Cell}
 use Rattle.gridded.specs.Grids.{Point, points, letter_of, may_follow, is_consistent, IsGridded, FitTogether}
 use Rattle.gridded.specs.Orders.{letters_of, cells_of}
 use Rattle.gridded.specs.PointLaws.{letters_of-points, length-points}
-use Rattle.coord_maps.proofs.Moves.{so_is_true}
+use Rattle.gridded.proofs.Moved.{so_is_true}
 use Rattle.coord_maps.specs.Preimages.{may_come, put, placed_points, point_at}
 use Rattle.patterns.specs.Words.{has_no_repeats}
 

@@ -17,7 +17,8 @@ use Rattle.gridded.specs.OrderLaws.{gridded_total, gridded_exact, gridded_ties, 
 use Rattle.gridded.specs.Laws.{GriddedAreListed}
 use Rattle.sequences.specs.Ascending.{in_order, exact_sequences}
 use Rattle.sequences.proofs.InOrder.{list_all-in_order}
-use Rattle.tiling_core.specs.Tiles.{Tiles, IsTiling, fits_grid, is_member}
+use Rattle.tiling_core.specs.Tiles.{Tiles, IsTiling, is_member}
+use Rattle.gridded.specs.Places.{fits_grid}
 use Rattle.coord_maps.specs.declared.grid_map.GridMap.{GridMap}
 use Rattle.coord_maps.specs.GridMaps.{IsGridMap, collapse, fits_new}
 use Rattle.coord_maps.specs.Preimages.{preimages}

@@ -2,7 +2,8 @@
 use Rattle.std.specs.Prelude.{Bool, List, map}
 use Rattle.gridded.specs.declared.cell.Cell.{Cell}
 use Rattle.gridded.specs.Grids.{Point}
-use Rattle.tiling_core.specs.Tiles.{fits_grid}
+use Rattle.gridded.specs.Places.{fits_grid}
+use Rattle.gridded.specs.Moved.{move_cells}
 use Rattle.coord_maps.specs.declared.grid_map.GridMap.{GridMap}
 use Rattle.coord_maps.specs.LineMaps.{IsCut, new_lines, old_line}
 
@@ -18,14 +19,6 @@ old_cell m c = record { x = old_line m.columns c.x; y = old_line m.rows c.y }
 -- the old cells of some new ones
 abbrev pub old_cells : GridMap → List Cell → List Cell
 old_cells m cells = map (old_cell m) cells
-
--- the point with its letter in another cell
-abbrev pub moved : (Cell → Cell) → Point → Point
-moved f p = record { letter = p.letter; cell = f p.cell }
-
--- the same letters, in cells that are sent elsewhere
-abbrev pub move_cells : (Cell → Cell) → List Point → List Point
-move_cells f g = map (moved f) g
 
 -- the gridded permutation of the old grid with the same letters
 abbrev pub collapse : GridMap → List Point → List Point

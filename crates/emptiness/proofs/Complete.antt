@@ -18,11 +18,16 @@ use Rattle.patterns.proofs.Occurrences.{occurs_decides, match_tells, match_from}
 use Rattle.gridded.specs.declared.cell.Cell.{Cell}
 use Rattle.gridded.specs.Grids.{Point, letter_of, cell_of, same_cell, is_consistent, is_gridded, holds, Holds}
 use Rattle.gridded.specs.Orders.{letters_of, cells_of, cell_eq}
-use Rattle.tiling_core.specs.Tiles.{Tiles, is_member, fits_grid}
+use Rattle.tiling_core.specs.Tiles.{Tiles, is_member}
+use Rattle.gridded.specs.Places.{fits_grid}
 use Rattle.emptiness.specs.Insertion.{fits_at, inserted}
 use Rattle.emptiness.specs.Glueing.{stands_in, joins, joins_at, falls_on, glues_at, glues, reaches}
 use Rattle.emptiness.proofs.Inserted.{consistent-inserted}
-use Rattle.emptiness.proofs.Standard.{ranked, standard, standard-more, rank-small, holds-standard, member-standard, consistent-standard, consistent-part, all-part, any-agree}
+use Rattle.gridded.specs.Parts.{ranked, closed_up}
+use Rattle.emptiness.proofs.Standard.{closed_up-more, member-closed_up, any-agree}
+use Rattle.patterns.proofs.PartLaws.{list_all-IsPart}
+use Rattle.gridded.proofs.ClosedUp.{rank-small, holds-closed_up, consistent-closed_up}
+use Rattle.gridded.proofs.Consistent.{consistent_part}
 use Rattle.emptiness.proofs.Steps.{any_below-here}
 
 -- ---- parts
@@ -70,16 +75,16 @@ stands-ranked : (ls : List ℕ) (a b : List Point) (x : Point) → stands_in (le
 stands-ranked ls [] b x = own-cell x.cell
 stands-ranked ls (y ∷ a) b x = stands-ranked ls a b x
 
-length-standard : (c : List Point) → length (standard c) ≡ length c
+length-standard : (c : List Point) → length (closed_up c) ≡ length c
 length-standard c = length-map c (ranked (letters_of c))
 
 -- what a member gives
 pub record Allows (obstructions : List (List Point)) (m : List Point) : Type 0 where
   pub distinct : NoRepeats (letters_of m)
   pub consistent : is_consistent m ≡ true
-  pub avoids : (c : List Point) → IsPart c m → list_any (λ p. holds (standard c) p) obstructions ≡ false
+  pub avoids : (c : List Point) → IsPart c m → list_any (λ p. holds (closed_up c) p) obstructions ≡ false
 
-module _ (obstructions : List (List Point)) (p m c0 : List Point) (next : List Point → Bool) (allows : Allows obstructions m) (done : (c : List Point) → IsPart c0 c → IsPart c m → Holds c p → next (standard c) ≡ true) where
+module _ (obstructions : List (List Point)) (p m c0 : List Point) (next : List Point → Bool) (allows : Allows obstructions m) (done : (c : List Point) → IsPart c0 c → IsPart c m → Holds c p → next (closed_up c) ≡ true) where
   -- what stands where the points of m before m2 have been passed: c1 of them are glued, and od of those are the occurrence's
   record State (m1 m2 c1 c2 od os : List Point) (from : ℕ) : Type 0 where
     whole : m1 ++ m2 ≡ m
@@ -89,41 +94,41 @@ module _ (obstructions : List (List Point)) (p m c0 : List Point) (next : List P
     match : is_match letter_of same_cell (od ++ os) p ≡ true
     keeps : IsPart c0 (c1 ++ c2)
 
-  joined : (m1 m2 c1 c2 : List Point) (y : Point) (more : ℕ → List Point → Bool) → m1 ++ y ∷ m2 ≡ m → IsPart c1 m1 → IsPart c2 m2 → more (length c1 + 1) (standard (c1 ++ y ∷ c2)) ≡ true → glues_at obstructions more y.cell (standard (c1 ++ c2)) (length c1) ≡ true
+  joined : (m1 m2 c1 c2 : List Point) (y : Point) (more : ℕ → List Point → Bool) → m1 ++ y ∷ m2 ≡ m → IsPart c1 m1 → IsPart c2 m2 → more (length c1 + 1) (closed_up (c1 ++ y ∷ c2)) ≡ true → glues_at obstructions more y.cell (closed_up (c1 ++ c2)) (length c1) ≡ true
   joined m1 m2 c1 c2 y more whole h k e =
       let part : IsPart (c1 ++ y ∷ c2) m = subst (λ w. IsPart (c1 ++ y ∷ c2) w) whole (IsPart-append h (kept y k)) in
       let out : IsIn y.letter (letters_of (c1 ++ c2)) → ⊥ = λ z.
       apart (letters_of m1) (letters_of m2) y.letter (subst (λ ls. NoRepeats ls) (ap letters_of (sym whole) ∙ letters-append m1 (y ∷ m2)) allows.distinct)
       (subst (λ ls. IsIn y.letter ls) (letters-append m1 m2) (from_IsPart (IsPart-map letter_of (IsPart-append h k)) z)) in
-      let more_is = standard-more c1 c2 y out in
+      let more_is = closed_up-more c1 c2 y out in
       let l : ℕ = rank (letters_of (c1 ++ c2)) y.letter in
-      let consistent : is_consistent (inserted (length c1) l y.cell (standard (c1 ++ c2))) ≡ true = ap is_consistent (sym more_is) ∙ consistent-standard (c1 ++ y ∷ c2) ∙ consistent-part part allows.consistent in
-      let fits = and_true (fits_at (length c1) l y.cell (standard (c1 ++ c2))) (is_consistent (standard (c1 ++ c2))) (sym (consistent-inserted (length c1) l y.cell (standard (c1 ++ c2))) ∙ consistent) in
-      let avoids : list_any (λ q. holds (inserted (length c1) l y.cell (standard (c1 ++ c2))) q) obstructions ≡ false = ap (λ g. list_any (λ q. holds g q) obstructions) (sym more_is) ∙ allows.avoids (c1 ++ y ∷ c2) part in
-      let onward : more (length c1 + 1) (inserted (length c1) l y.cell (standard (c1 ++ c2))) ≡ true = ap (λ g. more (length c1 + 1) g) (sym more_is) ∙ e in
-      let one : joins obstructions more y.cell (standard (c1 ++ c2)) (length c1) l ≡ true =
-      both_true (fits_at (length c1) l y.cell (standard (c1 ++ c2))) (not (list_any (λ q. holds (inserted (length c1) l y.cell (standard (c1 ++ c2))) q) obstructions) && more (length c1 + 1) (inserted (length c1) l y.cell (standard (c1 ++ c2)))) fits.0
-      (both_true (not (list_any (λ q. holds (inserted (length c1) l y.cell (standard (c1 ++ c2))) q) obstructions)) (more (length c1 + 1) (inserted (length c1) l y.cell (standard (c1 ++ c2)))) (not_false (list_any (λ q. holds (inserted (length c1) l y.cell (standard (c1 ++ c2))) q) obstructions) avoids) onward) in
+      let consistent : is_consistent (inserted (length c1) l y.cell (closed_up (c1 ++ c2))) ≡ true = ap is_consistent (sym more_is) ∙ consistent-closed_up (c1 ++ y ∷ c2) ∙ consistent_part part allows.consistent in
+      let fits = and_true (fits_at (length c1) l y.cell (closed_up (c1 ++ c2))) (is_consistent (closed_up (c1 ++ c2))) (sym (consistent-inserted (length c1) l y.cell (closed_up (c1 ++ c2))) ∙ consistent) in
+      let avoids : list_any (λ q. holds (inserted (length c1) l y.cell (closed_up (c1 ++ c2))) q) obstructions ≡ false = ap (λ g. list_any (λ q. holds g q) obstructions) (sym more_is) ∙ allows.avoids (c1 ++ y ∷ c2) part in
+      let onward : more (length c1 + 1) (inserted (length c1) l y.cell (closed_up (c1 ++ c2))) ≡ true = ap (λ g. more (length c1 + 1) g) (sym more_is) ∙ e in
+      let one : joins obstructions more y.cell (closed_up (c1 ++ c2)) (length c1) l ≡ true =
+      both_true (fits_at (length c1) l y.cell (closed_up (c1 ++ c2))) (not (list_any (λ q. holds (inserted (length c1) l y.cell (closed_up (c1 ++ c2))) q) obstructions) && more (length c1 + 1) (inserted (length c1) l y.cell (closed_up (c1 ++ c2)))) fits.0
+      (both_true (not (list_any (λ q. holds (inserted (length c1) l y.cell (closed_up (c1 ++ c2))) q) obstructions)) (more (length c1 + 1) (inserted (length c1) l y.cell (closed_up (c1 ++ c2)))) (not_false (list_any (λ q. holds (inserted (length c1) l y.cell (closed_up (c1 ++ c2))) q) obstructions) avoids) onward) in
       let small = rank-small (c1 ++ c2) y.letter in
       let long = length-standard (c1 ++ c2) in
-      let at : joins_at obstructions more y.cell (standard (c1 ++ c2)) (length c1) ≡ true = any_below-here (λ i. joins obstructions more y.cell (standard (c1 ++ c2)) (length c1) i) 0 (length (standard (c1 ++ c2)) + 1) l (omega arith) (omega arith) one in
-      rw at (or_all (falls_on more y.cell (standard (c1 ++ c2)) (length c1)))
+      let at : joins_at obstructions more y.cell (closed_up (c1 ++ c2)) (length c1) ≡ true = any_below-here (λ i. joins obstructions more y.cell (closed_up (c1 ++ c2)) (length c1) i) 0 (length (closed_up (c1 ++ c2)) + 1) l (omega arith) (omega arith) one in
+      rw at (or_all (falls_on more y.cell (closed_up (c1 ++ c2)) (length c1)))
 
-  fallen : (c1 c2 : List Point) (y : Point) (more : ℕ → List Point → Bool) → more (length c1 + 1) (standard (c1 ++ y ∷ c2)) ≡ true → glues_at obstructions more y.cell (standard (c1 ++ y ∷ c2)) (length c1) ≡ true
+  fallen : (c1 c2 : List Point) (y : Point) (more : ℕ → List Point → Bool) → more (length c1 + 1) (closed_up (c1 ++ y ∷ c2)) ≡ true → glues_at obstructions more y.cell (closed_up (c1 ++ y ∷ c2)) (length c1) ≡ true
   fallen c1 c2 y more e =
-      let on : falls_on more y.cell (standard (c1 ++ y ∷ c2)) (length c1) ≡ true = both_true (stands_in (length c1) y.cell (standard (c1 ++ y ∷ c2))) (more (length c1 + 1) (standard (c1 ++ y ∷ c2))) (stands-ranked (letters_of (c1 ++ y ∷ c2)) c1 c2 y) e in
+      let on : falls_on more y.cell (closed_up (c1 ++ y ∷ c2)) (length c1) ≡ true = both_true (stands_in (length c1) y.cell (closed_up (c1 ++ y ∷ c2))) (more (length c1 + 1) (closed_up (c1 ++ y ∷ c2))) (stands-ranked (letters_of (c1 ++ y ∷ c2)) c1 c2 y) e in
       rw on refl
 
   longer : (c : List Point) (y : Point) → length (c ++ y ∷ []) ≡ length c + 1
   longer c y = length-append c (y ∷ []) ∙ omega arith
 
-  glued : (m1 m2 c1 c2 od os : List Point) (from : ℕ) → IsPart os m2 → IsPart c2 m2 → State m1 m2 c1 c2 od os from → glues obstructions p next (cells_of os) from (standard (c1 ++ c2)) ≡ true
+  glued : (m1 m2 c1 c2 od os : List Point) (from : ℕ) → IsPart os m2 → IsPart c2 m2 → State m1 m2 c1 c2 od os from → glues obstructions p next (cells_of os) from (closed_up (c1 ++ c2)) ≡ true
   unfolding glues
   glued m1 [] c1 [] od [] from none none s =
       let all : IsPart (c1 ++ []) m = subst (λ w. IsPart (c1 ++ []) w) s.whole (IsPart-append s.before none) in
       let w = match_tells letter_of same_cell (od ++ []) p s.match in
       let held : Holds (c1 ++ []) p = record { points = od ++ []; chosen = IsPart-append s.occurrence none; order = w.order; fit = w.fit } in
-      both_true (holds (standard (c1 ++ [])) p) (next (standard (c1 ++ []))) (holds-standard (c1 ++ []) p ∙ (occurs_decides letter_of same_cell (c1 ++ []) p).1 held) (done (c1 ++ []) s.keeps all held)
+      both_true (holds (closed_up (c1 ++ [])) p) (next (closed_up (c1 ++ []))) (holds-closed_up (c1 ++ []) p ∙ (occurs_decides letter_of same_cell (c1 ++ []) p).1 held) (done (c1 ++ []) s.keeps all held)
   glued m1 (_ ∷ m2) c1 (_ ∷ c2) od (_ ∷ os) from (kept y h) (kept _ k) s =
       let ih = glued (m1 ++ y ∷ []) m2 (c1 ++ y ∷ []) c2 (od ++ y ∷ []) os (length c1 + 1) h k (record {
         whole = pushed m1 m2 y ∙ s.whole;
@@ -134,9 +139,9 @@ module _ (obstructions : List (List Point)) (p m c0 : List Point) (next : List P
         keeps = subst (λ w. IsPart c0 w) (sym (pushed c1 c2 y)) s.keeps;
       }) in
       let start = s.start in
-      any_below-here (λ i. glues_at obstructions (λ place g. glues obstructions p next (cells_of os) place g) y.cell (standard (c1 ++ y ∷ c2)) i) from (length (standard (c1 ++ y ∷ c2)) + 1 - from) (length c1) s.start
+      any_below-here (λ i. glues_at obstructions (λ place g. glues obstructions p next (cells_of os) place g) y.cell (closed_up (c1 ++ y ∷ c2)) i) from (length (closed_up (c1 ++ y ∷ c2)) + 1 - from) (length c1) s.start
       (omega (arith, length-standard (c1 ++ y ∷ c2), length-append c1 (y ∷ c2)))
-      (fallen c1 c2 y (λ place g. glues obstructions p next (cells_of os) place g) (ap (λ w. glues obstructions p next (cells_of os) (length c1 + 1) (standard w)) (sym (pushed c1 c2 y)) ∙ ih))
+      (fallen c1 c2 y (λ place g. glues obstructions p next (cells_of os) place g) (ap (λ w. glues obstructions p next (cells_of os) (length c1 + 1) (closed_up w)) (sym (pushed c1 c2 y)) ∙ ih))
   glued m1 (_ ∷ m2) c1 c2 od (_ ∷ os) from (kept y h) (left_out _ k) s =
       let ih = glued (m1 ++ y ∷ []) m2 (c1 ++ y ∷ []) c2 (od ++ y ∷ []) os (length c1 + 1) h k (record {
         whole = pushed m1 m2 y ∙ s.whole;
@@ -147,9 +152,9 @@ module _ (obstructions : List (List Point)) (p m c0 : List Point) (next : List P
         keeps = subst (λ w. IsPart c0 w) (sym (pushed c1 c2 y)) (IsPart-trans s.keeps (one-inside c1 c2 y));
       }) in
       let start = s.start in
-      any_below-here (λ i. glues_at obstructions (λ place g. glues obstructions p next (cells_of os) place g) y.cell (standard (c1 ++ c2)) i) from (length (standard (c1 ++ c2)) + 1 - from) (length c1) s.start
+      any_below-here (λ i. glues_at obstructions (λ place g. glues obstructions p next (cells_of os) place g) y.cell (closed_up (c1 ++ c2)) i) from (length (closed_up (c1 ++ c2)) + 1 - from) (length c1) s.start
       (omega (arith, length-standard (c1 ++ c2), length-append c1 c2))
-      (joined m1 m2 c1 c2 y (λ place g. glues obstructions p next (cells_of os) place g) s.whole s.before k (ap (λ w. glues obstructions p next (cells_of os) (length c1 + 1) (standard w)) (sym (pushed c1 c2 y)) ∙ ih))
+      (joined m1 m2 c1 c2 y (λ place g. glues obstructions p next (cells_of os) place g) s.whole s.before k (ap (λ w. glues obstructions p next (cells_of os) (length c1 + 1) (closed_up w)) (sym (pushed c1 c2 y)) ∙ ih))
   glued m1 (_ ∷ m2) c1 (_ ∷ c2) od os from (left_out y h) (kept _ k) s =
       let ih = glued (m1 ++ y ∷ []) m2 (c1 ++ y ∷ []) c2 od os from h k (record {
         whole = pushed m1 m2 y ∙ s.whole;
@@ -159,7 +164,7 @@ module _ (obstructions : List (List Point)) (p m c0 : List Point) (next : List P
         match = s.match;
         keeps = subst (λ w. IsPart c0 w) (sym (pushed c1 c2 y)) s.keeps;
       }) in
-      ap (λ w. glues obstructions p next (cells_of os) from (standard w)) (sym (pushed c1 c2 y)) ∙ ih
+      ap (λ w. glues obstructions p next (cells_of os) from (closed_up w)) (sym (pushed c1 c2 y)) ∙ ih
   glued m1 (_ ∷ m2) c1 c2 od os from (left_out y h) (left_out _ k) s =
       glued (m1 ++ y ∷ []) m2 c1 c2 od os from h k (record {
         whole = pushed m1 m2 y ∙ s.whole;
@@ -184,10 +189,10 @@ module _ (obstructions : List (List Point)) (p m c0 : List Point) (next : List P
       λ i. record { x = ex i; y = ey i } ∷ rest i
 
   -- the pattern can be glued to a part of m where m holds it
-  pub glued-whole : Holds m p → IsPart c0 m → glues obstructions p next (cells_of p) 0 (standard c0) ≡ true
+  pub glued-whole : Holds m p → IsPart c0 m → glues obstructions p next (cells_of p) 0 (closed_up c0) ≡ true
   glued-whole h k =
       let o = h.points in
-      ap (λ cs. glues obstructions p next cs 0 (standard c0)) (sym (same-cells o p h.fit))
+      ap (λ cs. glues obstructions p next cs 0 (closed_up c0)) (sym (same-cells o p h.fit))
       ∙ glued [] m [] c0 [] o 0 h.chosen k (record {
         whole = refl;
         before = none;
@@ -240,20 +245,20 @@ abbrev Meets : List Point → List (List (List Point)) → Type 0
 Meets c lists = list_all (λ ps. list_any (λ p. holds c p) ps) lists ≡ true
 
 -- from any part of a member, a member is reached
-pub reached : (t : Tiles) (m : List Point) → Allows t.obstructions m → (lists : List (List (List Point))) (c : List Point) → IsPart c m → Meets m lists → ((d : List Point) → IsPart c d → IsPart d m → Meets d lists → is_member t d ≡ true) → reaches t lists (standard c) ≡ true
+pub reached : (t : Tiles) (m : List Point) → Allows t.obstructions m → (lists : List (List (List Point))) (c : List Point) → IsPart c m → Meets m lists → ((d : List Point) → IsPart c d → IsPart d m → Meets d lists → is_member t d ≡ true) → reaches t lists (closed_up c) ≡ true
 unfolding reaches
-reached t m allows [] c k meets rest = member-standard t c ∙ rest c (IsPart-itself c) k refl
+reached t m allows [] c k meets rest = member-closed_up t c ∙ rest c (IsPart-itself c) k refl
 reached t m allows (ps ∷ lists) c k meets rest =
     let both = and_true (list_any (λ p. holds m p) ps) (list_all (λ qs. list_any (λ p. holds m p) qs) lists) meets in
-    go (list_any (λ p. holds (standard c) p) ps) refl both.0
+    go (list_any (λ p. holds (closed_up c) p) ps) refl both.0
     (λ d a b e. reached t m allows lists d b both.1 (λ f q r s. rest f (IsPart-trans a q) r (both_true (list_any (λ p. holds f p) ps) (list_all (λ qs. list_any (λ p. holds f p) qs) lists) (one-longer ps q e) s)))
   where
-    go : (b : Bool) → list_any (λ p. holds (standard c) p) ps ≡ b → list_any (λ p. holds m p) ps ≡ true → ((d : List Point) → IsPart c d → IsPart d m → list_any (λ p. holds d p) ps ≡ true → reaches t lists (standard d) ≡ true)
-        → cond b (reaches t lists (standard c)) (list_any (λ p. glues t.obstructions p (λ h. reaches t lists h) (cells_of p) 0 (standard c)) ps) ≡ true
-    go true e f ih = ih c (IsPart-itself c) k (sym (any-agree (λ p. holds (standard c) p) (λ p. holds c p) (λ p. holds-standard c p) ps) ∙ e)
+    go : (b : Bool) → list_any (λ p. holds (closed_up c) p) ps ≡ b → list_any (λ p. holds m p) ps ≡ true → ((d : List Point) → IsPart c d → IsPart d m → list_any (λ p. holds d p) ps ≡ true → reaches t lists (closed_up d) ≡ true)
+        → cond b (reaches t lists (closed_up c)) (list_any (λ p. glues t.obstructions p (λ h. reaches t lists h) (cells_of p) 0 (closed_up c)) ps) ≡ true
+    go true e f ih = ih c (IsPart-itself c) k (sym (any-agree (λ p. holds (closed_up c) p) (λ p. holds c p) (λ p. holds-closed_up c p) ps) ∙ e)
     go false e f ih =
         let w = one-passes (λ p. holds m p) ps f in
-        some-passes (λ p. glues t.obstructions p (λ h. reaches t lists h) (cells_of p) 0 (standard c)) w.1
+        some-passes (λ p. glues t.obstructions p (λ h. reaches t lists h) (cells_of p) 0 (closed_up c)) w.1
         (glued-whole t.obstructions w.0 m c (λ h. reaches t lists h) allows (λ d a b h. ih d a b (some-passes (λ p. holds d p) w.1 ((occurs_decides letter_of same_cell d w.0).1 h))) ((occurs_decides letter_of same_cell m w.0).0 w.2) k)
 
 -- ---- members
@@ -280,14 +285,14 @@ module _ (t : Tiles) (m : List Point) (gridded : is_gridded m ≡ true) (belongs
   allowed = record {
     distinct = distinct_tells (map letter_of m) (and_true (has_no_repeats (map letter_of m)) (is_consistent m) gridded).0;
     consistent = (and_true (has_no_repeats (map letter_of m)) (is_consistent m) gridded).1;
-    avoids = λ c k. false-from (list_any (λ p. holds (standard c) p) t.obstructions) (λ e. let w = one-passes (λ p. holds (standard c) p) t.obstructions e in
-        let no = not_held c w.0 k w.1 in let yes = sym (holds-standard c w.0) ∙ w.2 in absurd cc);
+    avoids = λ c k. false-from (list_any (λ p. holds (closed_up c) p) t.obstructions) (λ e. let w = one-passes (λ p. holds (closed_up c) p) t.obstructions e in
+        let no = not_held c w.0 k w.1 in let yes = sym (holds-closed_up c w.0) ∙ w.2 in absurd cc);
   }
 
   part_belongs : (d : List Point) → IsPart d m → Meets d t.requirements → is_member t d ≡ true
   part_belongs d k e =
       both_true (fits_grid t.width t.height d) (list_all (λ p. not (holds d p)) t.obstructions && list_all (λ ps. list_any (λ p. holds d p) ps) t.requirements)
-      (all-part (λ c. nat_lt c.x t.width && nat_lt c.y t.height) (IsPart-map cell_of k) in_grid)
+      (list_all-IsPart (λ c. nat_lt c.x t.width && nat_lt c.y t.height) (IsPart-map cell_of k) in_grid)
       (both_true (list_all (λ p. not (holds d p)) t.obstructions) (list_all (λ ps. list_any (λ p. holds d p) ps) t.requirements) (all-pass (λ p. not (holds d p)) t.obstructions (λ p h. not_false (holds d p) (not_held d p k h))) e)
 
   -- a member is reached where there is one

@@ -12,7 +12,8 @@ use Rattle.patterns.proofs.NoRepeat.{IsIn-flat_map, IsIn-words, in_range_with_le
 use Rattle.gridded.specs.declared.cell.Cell.{Cell}
 use Rattle.gridded.specs.Grids.{Point, letter_of, cells_in, points_in, gridded_of, is_gridded, is_consistent}
 use Rattle.gridded.specs.Orders.{cells_of}
-use Rattle.tiling_core.specs.Tiles.{Tiles, is_member, fits_grid, count}
+use Rattle.tiling_core.specs.Tiles.{Tiles, is_member, count}
+use Rattle.gridded.specs.Places.{fits_grid}
 use Rattle.tiling_core.specs.Measures.{weight}
 use Rattle.emptiness.specs.Emptiness.{IsEmpty, ShortLength, MembersWithinWeight, IsHeldByMember}
 use Rattle.emptiness.specs.Glueing.{glues, reaches}

@@ -20,10 +20,12 @@ use Rattle.gridded.specs.Orders.{cells_of, gridded_eq, gridded_cmp}
 use Rattle.gridded.specs.OrderLaws.{gridded_total, gridded_exact, gridded_eq_decides}
 use Rattle.sequences.specs.Ascending.{in_order}
 use Rattle.sequences.proofs.InOrder.{All-in_order, list_all-in_order, in_order_ascends}
+use Rattle.gridded.proofs.SmallFits.{consistent-rising, consistent-falling}
 use Rattle.tiling_core.specs.Tiles.{Tiles}
-use Rattle.tiling_core.specs.Patterns.{point_at, rising, falling, forbids, active_cells}
+use Rattle.gridded.specs.Small.{point_at, rising, falling}
+use Rattle.tiling_core.specs.Patterns.{forbids, active_cells}
 use Rattle.emptiness.specs.Glueing.{glues, reaches}
-use Rattle.emptiness.specs.Candidates.{one_of, column_of, pairs_of, candidates_with, candidates_of, is_unheld}
+use Rattle.emptiness.specs.Candidates.{pairs_of, candidates_with, candidates_of, is_unheld}
 use Rattle.emptiness.specs.Emptiness.{IsInferable, IsInferredOf, IsHeldByMember}
 use Rattle.emptiness.proofs.Inserted.{IsPlaced}
 use Rattle.emptiness.proofs.Complete.{one-passes, some-passes, each-passes, all-pass, false-from}
@@ -33,36 +35,11 @@ use Rattle.emptiness.proofs.Counted.{placed-listed, held_decides}
 placed-point : (c : Cell) → IsPlaced (point_at c)
 placed-point c = record { below = (omega arith, tt); distinct = refl; consistent = refl }
 
-consistent-rising : (c d : Cell) → c.x ≤ d.x → c.y ≤ d.y → is_consistent (rising c d) ≡ true
-consistent-rising c d h k = grind (arith, nat_tests)
-
-consistent-falling : (c d : Cell) → c.x ≤ d.x → d.y ≤ c.y → is_consistent (falling c d) ≡ true
-consistent-falling c d h k = grind (arith, nat_tests)
-
 placed-rising : (c d : Cell) → c.x ≤ d.x → c.y ≤ d.y → IsPlaced (rising c d)
 placed-rising c d h k = record { below = (omega arith, (omega arith, tt)); distinct = refl; consistent = consistent-rising c d h k }
 
 placed-falling : (c d : Cell) → c.x ≤ d.x → d.y ≤ c.y → IsPlaced (falling c d)
 placed-falling c d h k = record { below = (omega arith, (omega arith, tt)); distinct = refl; consistent = consistent-falling c d h k }
-
-is_true : (b : Bool) → b ≡ true → IsTrue b
-is_true true e = refl
-is_true false e = e
-
-gridded : (g : List Point) → length g ≤ 9 → IsPlaced g → IsGridded g
-gridded g few h = record { short = few; below = All-from_recursion (λ (p : Point). p.letter < length g) g h.below; distinct = is_true _ h.distinct; consistent = is_true _ h.consistent }
-
-pub fit-none : FitTogether [] []
-fit-none = record { as_many = refl; gridded = gridded [] (omega arith) (record { below = tt; distinct = refl; consistent = refl }) }
-
-pub fit-point : (c : Cell) → FitTogether (0 ∷ []) (c ∷ [])
-fit-point c = record { as_many = refl; gridded = gridded (point_at c) (omega arith) (placed-point c) }
-
-pub fit-rising : (c d : Cell) → c.x ≤ d.x → c.y ≤ d.y → FitTogether (0 ∷ 1 ∷ []) (c ∷ d ∷ [])
-fit-rising c d h k = record { as_many = refl; gridded = gridded (rising c d) (omega arith) (placed-rising c d h k) }
-
-pub fit-falling : (c d : Cell) → c.x ≤ d.x → d.y ≤ c.y → FitTogether (1 ∷ 0 ∷ []) (c ∷ d ∷ [])
-fit-falling c d h k = record { as_many = refl; gridded = gridded (falling c d) (omega arith) (placed-falling c d h k) }
 
 -- ---- candidates
 pub data IsCandidate (cells : List Cell) : List Point → Type 0 where
@@ -132,44 +109,6 @@ cell-in w h c m =
 
 pub active-in_grid : (t : Tiles) (c : Cell) → IsIn c (active_cells t) → (nat_lt c.x t.width && nat_lt c.y t.height) ≡ true
 active-in_grid t c m = cell-in t.width t.height c (from_IsIn-filter (λ d. not (forbids t (point_at d))) (cells_in t.width t.height) m).0
-
--- ---- the cells of a set
-range-next : (a n : ℕ) → range_with_len a (suc n) ≡ range_with_len a n ++ (a + n) ∷ []
-range-next a zero = rw (add-zero a) refl
-range-next a (suc n) =
-    let e : a + 1 + n ≡ a + suc n = omega arith in
-    ap (λ rest. a ∷ rest) (range-next (a + 1) n ∙ rw e refl)
-
-range-more : (n : ℕ) → range_with_len 0 (n + 1) ≡ range_with_len 0 n ++ n ∷ []
-range-more n =
-    let up : n + 1 ≡ suc n = omega arith in
-    let at : 0 + n ≡ n = omega arith in
-    rw up (range-next 0 n ∙ rw at refl)
-
-abbrev at : ℕ → ℕ → Cell
-at x y = record { x = x; y = y }
-
-column_of-more : (set : List Cell) (x y : ℕ) → column_of set x (y + 1) ≡ column_of set x y ++ one_of set (at x y)
-column_of-more set x y =
-    rw (range-more y) (ap (λ cs. filter (λ c. is_among set c) cs) (map-append (λ z. at x z) (range_with_len 0 y) (y ∷ [])) ∙ filter-append (λ c. is_among set c) (map (λ z. at x z) (range_with_len 0 y)) (at x y ∷ []))
-
-pub column-step : (set : List Cell) (x y : ℕ) (old before after : List Cell) → before ≡ old ++ column_of set x y → after ≡ before ++ one_of set (at x y) → after ≡ old ++ column_of set x (y + 1)
-column-step set x y old before after e f = f ∙ ap (λ s. s ++ one_of set (at x y)) e ∙ append_assoc old (column_of set x y) (one_of set (at x y)) ∙ ap (λ s. old ++ s) (sym (column_of-more set x y))
-
-columns-more : (set : List Cell) (x : ℕ) → flat_map (λ i. column_of set i 8) (range_with_len 0 (x + 1)) ≡ flat_map (λ i. column_of set i 8) (range_with_len 0 x) ++ column_of set x 8
-columns-more set x =
-    rw (range-more x) (flat_map-append (λ i. column_of set i 8) (range_with_len 0 x) (x ∷ []) ∙ ap (λ rest. flat_map (λ i. column_of set i 8) (range_with_len 0 x) ++ rest) (append-nil (column_of set x 8)))
-
-pub set-step : (set : List Cell) (x : ℕ) (before after : List Cell) → before ≡ flat_map (λ i. column_of set i 8) (range_with_len 0 x) → after ≡ before ++ column_of set x 8 → after ≡ flat_map (λ i. column_of set i 8) (range_with_len 0 (x + 1))
-set-step set x before after e f = f ∙ ap (λ s. s ++ column_of set x 8) e ∙ sym (columns-more set x)
-
-filter-flat_map : {X Y : Type 0} (test : Y → Bool) (f : X → List Y) (xs : List X) → filter test (flat_map f xs) ≡ flat_map (λ x. filter test (f x)) xs
-filter-flat_map test f [] = refl
-filter-flat_map test f (x ∷ xs) = filter-append test (f x) (flat_map f xs) ∙ ap (λ rest. filter test (f x) ++ rest) (filter-flat_map test f xs)
-
-pub columns-whole : (set : List Cell) → IsCellSet set → flat_map (λ i. column_of set i 8) (range_with_len 0 8) ≡ set
-unfolding cells_that
-columns-whole set h = sym (filter-flat_map (λ c. is_among set c) (λ x. map (λ y. record { x = x; y = y }) (range_with_len 0 8)) (range_with_len 0 8)) ∙ sym h
 
 -- ---- which candidates are inferable
 letters-below : (w h n : ℕ) (p : List Point) → AllByRecursion (λ x. IsIn x (points_in w h n)) p → AllByRecursion (λ (x : Point). x.letter < n) p
@@ -320,5 +259,3 @@ candidate-small cells (down c d h k l m) = omega arith
 pub candidates-small : (cells : List Cell) (all : List (List Point)) → all ≡ candidates_of cells → All (λ p. length p ≤ 2) all
 candidates-small cells all e =
     subst (λ xs. All (λ p. length p ≤ 2) xs) (sym e) (All-from_recursion (λ p. length p ≤ 2) (candidates_of cells) (all-in (λ p. length p ≤ 2) (candidates_of cells) (λ p m. candidate-small cells (candidates_tell cells p m))))
-
-pub ruleset fitting = (fit-none, fit-point, fit-rising, fit-falling)

@@ -19,7 +19,7 @@ use Rattle.tiling_core.specs.Measures.{longest}
 use Rattle.emptiness.specs.Insertion.{fits_at, inserted}
 use Rattle.emptiness.specs.Glueing.{weight_of, stands_in, joins, joins_at, falls_on, glues_at, glues, reaches}
 use Rattle.emptiness.proofs.Inserted.{IsPlaced, IsPlaced-inserted, length-inserted, Holds-inserted}
-use Rattle.emptiness.proofs.Standard.{Holds-trans}
+use Rattle.gridded.proofs.Holding.{Holds-trans}
 use Rattle.emptiness.proofs.Complete.{one-passes}
 
 -- ---- a gridded permutation holds itself

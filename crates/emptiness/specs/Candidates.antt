@@ -6,16 +6,8 @@ use Rattle.gridded.specs.Grids.{Point, holds}
 use Rattle.gridded.specs.Orders.{cells_of}
 use Rattle.tiling_core.specs.Tiles.{Tiles}
 use Rattle.gridded.specs.CellSets.{is_among}
-use Rattle.tiling_core.specs.Patterns.{point_at, rising, falling}
+use Rattle.gridded.specs.Small.{point_at, rising, falling}
 use Rattle.emptiness.specs.Glueing.{glues, reaches}
-
--- the cell, where it is in the set
-abbrev pub one_of : List Cell → Cell → List Cell
-one_of set c = cond (is_among set c) (c ∷ []) []
-
--- those of the n lowest cells of a column that are in the set
-abbrev pub column_of : List Cell → ℕ → ℕ → List Cell
-column_of set x n = filter (λ c. is_among set c) (map (λ y. record { x = x; y = y }) (range_with_len 0 n))
 
 -- a point in c, and right of it one in d
 abbrev pub pairs_of : Cell → Cell → List (List Point)

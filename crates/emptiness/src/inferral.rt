@@ -5,7 +5,7 @@ ghost use Rattle.emptiness.specs.Candidates.{is_unheld};
 ghost use Rattle.emptiness.specs.Emptiness.{IsInferredOf};
 ghost use Rattle.emptiness.specs.Refused.{IsInferRefused};
 
-use crate::candidates::{candidates, cells_of_set};
+use crate::candidates::candidates;
 use crate::fault::InferFault;
 use crate::glueing::{glues, holds_one};
 use gridded::Gridded;
@@ -62,7 +62,7 @@ pub fn inferred(alloc: Global, tiling: &Tiling) -> Result<Vec<Gridded>, InferFau
     if active.count() > 16 {
         return Err(InferFault::Wide);
     }
-    let Ok(cells) = cells_of_set(alloc, active) else {
+    let Ok(cells) = active.cells(alloc) else {
         return Err(InferFault::Memory);
     };
     let Ok(all) = candidates(alloc, &cells) else {

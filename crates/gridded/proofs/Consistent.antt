@@ -1,28 +1,23 @@
 -- Distinct letters and consistent cells go down to parts, and over to points that stand alike.
-use Rattle.std.proofs.Common.{◌≡◌, ℕ, Bool, true, false, List, [], ◌∷◌, refl, subst}
+use Rattle.std.proofs.Common.{◌≡◌, ℕ, Bool, true, false, List, [], ◌∷◌, refl, subst, arith}
 use Rattle.std.specs.Prelude.{◌&&◌, not, nat_lt, nat_le, ◌==◌}
 use Rattle.std.specs.Bool.{beq}
 use Rattle.std.specs.List.{list_all, list_any}
 use Rattle.std.proofs.lemmas.Bool.Decides.{nat_tests}
-use Rattle.std.proofs.Common.{arith}
 use Rattle.patterns.specs.Parts.{IsPart}
 use Rattle.patterns.specs.Parts.IsPart.{none, kept, left_out}
 use Rattle.patterns.specs.Occurs.{stand_alike, stands_as, is_match}
 use Rattle.patterns.specs.Words.{has_no_repeats}
+use Rattle.patterns.proofs.PartLaws.{list_all-IsPart}
 use Rattle.patterns.proofs.Booleans.{and_true, both_true, or_false, not_true, not_false}
 use Rattle.gridded.specs.Grids.{Point, same_cell, may_follow, is_consistent, letter_of}
 use Rattle.gridded.specs.Orders.{letters_of}
-use Rattle.gridded.proofs.FreeBits.{one_cell}
+use Rattle.gridded.proofs.Holding.{same_cell_tells}
 
 -- ---- parts
-all_in_part : (t : Point → Bool) {c g : List Point} → IsPart c g → list_all t g ≡ true → list_all t c ≡ true
-all_in_part t none h = h
-all_in_part t (kept {part} {whole} x k) h = let m = and_true (t x) (list_all t whole) h in both_true _ _ m.0 (all_in_part t k m.1)
-all_in_part t (left_out {whole = whole} x k) h = all_in_part t k (and_true (t x) (list_all t whole) h).1
-
 pub consistent_part : {c g : List Point} → IsPart c g → is_consistent g ≡ true → is_consistent c ≡ true
 consistent_part none h = h
-consistent_part (kept {part} {whole} x k) h = let m = and_true (list_all (λ y. may_follow x y) whole) (is_consistent whole) h in both_true _ _ (all_in_part (λ y. may_follow x y) k m.0) (consistent_part k m.1)
+consistent_part (kept {part} {whole} x k) h = let m = and_true (list_all (λ y. may_follow x y) whole) (is_consistent whole) h in both_true _ _ (list_all-IsPart (λ y. may_follow x y) k m.0) (consistent_part k m.1)
 consistent_part (left_out {whole = whole} x k) h = consistent_part k (and_true (list_all (λ y. may_follow x y) whole) (is_consistent whole) h).1
 
 any_in_part : (test : ℕ → Bool) {c g : List ℕ} → IsPart c g → list_any test g ≡ false → list_any test c ≡ false
@@ -56,8 +51,8 @@ follows_alike x y a b e h = same (nat_lt x.letter y.letter) (nat_lt a b) (nat_lt
 follows_matched : (x y a b : Point) → same_cell x a ≡ true → same_cell y b ≡ true → stand_alike x.letter a.letter y.letter b.letter ≡ true → may_follow x y ≡ true → may_follow a b ≡ true
 follows_matched x y a b e f s h =
     let moved : may_follow (record { letter = a.letter; cell = x.cell }) (record { letter = b.letter; cell = y.cell }) ≡ true = follows_alike x y a.letter b.letter s h in
-    let first : may_follow a (record { letter = b.letter; cell = y.cell }) ≡ true = subst (λ c. may_follow (record { letter = a.letter; cell = c }) (record { letter = b.letter; cell = y.cell }) ≡ true) (one_cell x a e) moved in
-    subst (λ c. may_follow a (record { letter = b.letter; cell = c }) ≡ true) (one_cell y b f) first
+    let first : may_follow a (record { letter = b.letter; cell = y.cell }) ≡ true = subst (λ c. may_follow (record { letter = a.letter; cell = c }) (record { letter = b.letter; cell = y.cell }) ≡ true) (same_cell_tells x a e) moved in
+    subst (λ c. may_follow a (record { letter = b.letter; cell = c }) ≡ true) (same_cell_tells y b f) first
 
 all_follow_matched : (x a : Point) (xs ps : List Point) → same_cell x a ≡ true → is_match letter_of same_cell xs ps ≡ true → stands_as letter_of same_cell x a xs ps ≡ true → list_all (λ y. may_follow x y) xs ≡ true → list_all (λ b. may_follow a b) ps ≡ true
 all_follow_matched x a [] [] e m s h = refl

@@ -13,6 +13,7 @@ use Rattle.gridded.specs.Orders.{cells_of}
 use Rattle.gridded.specs.Free.{without, free_of}
 use Rattle.gridded.specs.Search.{found}
 use Rattle.gridded.proofs.Searches.{starting}
+use Rattle.gridded.proofs.Holding.{same_cell_tells}
 
 pub ruleset bits = (one_shl)
 
@@ -30,13 +31,6 @@ free_small : (cells : List Cell) → free_of cells < 2 ^ 32
 free_small [] = omega arith
 free_small (c ∷ cells) = omega (arith, and_le_r (without c) (free_of cells), free_small cells)
 
-pub one_cell : (x y : Point) → same_cell x y ≡ true → x.cell ≡ y.cell
-one_cell x y e =
-    let k = and_true (x.cell.x == y.cell.x) (x.cell.y == y.cell.y) e in
-    let a = (Decides-eqb x.cell.x y.cell.x).0 k.0 in
-    let b = (Decides-eqb x.cell.y y.cell.y).0 k.1 in
-    λ i. record { x = a i; y = b i }
-
 -- one more free cell on the left
 more_left : (n a b : ℕ) → bit_and a b ≡ a → bit_and (bit_and n a) b ≡ bit_and n a
 more_left n a b e = and_assoc b n a ∙ ap (bit_and n) e
@@ -51,7 +45,7 @@ more_both n a b e =
 found_free : (xs ys : List ℕ) (w p : List Point) → found xs ys w p ≡ true → bit_and (free_of (cells_of w)) (free_of (cells_of p)) ≡ free_of (cells_of w)
 found_free xs ys w [] e = and_mask (free_of (cells_of w)) 32 ∙ omega (arith, free_small (cells_of w))
 found_free xs ys [] (y ∷ p) e = absurd cc
-found_free xs ys (x ∷ w) (y ∷ p) e = go (same_cell x y) (letters_fit x.letter y.letter xs ys) (found (xs ++ x.letter ∷ []) (ys ++ y.letter ∷ []) w p) (found xs ys w (y ∷ p)) e (one_cell x y) (found_free (xs ++ x.letter ∷ []) (ys ++ y.letter ∷ []) w p) (found_free xs ys w (y ∷ p))
+found_free xs ys (x ∷ w) (y ∷ p) e = go (same_cell x y) (letters_fit x.letter y.letter xs ys) (found (xs ++ x.letter ∷ []) (ys ++ y.letter ∷ []) w p) (found xs ys w (y ∷ p)) e (same_cell_tells x y) (found_free (xs ++ x.letter ∷ []) (ys ++ y.letter ∷ []) w p) (found_free xs ys w (y ∷ p))
   where
     A : ℕ
     A = free_of (cells_of w)

@@ -12,7 +12,7 @@ use Rattle.gridded.specs.Orders.{letters_of, cells_of}
 use Rattle.gridded.specs.PointLaws.{letters_of-points, cells_of-points, length-points}
 use Rattle.gridded.specs.Parts.{HasRoom, closed_up}
 use Rattle.gridded.proofs.Points.{points-of_fields}
-use Rattle.gridded.proofs.ClosedUp.{FitTogether-closed_up}
+use Rattle.gridded.proofs.ClosedUp.{FitTogether-closed_up, points-closed_up}
 
 points-push : (letters : List ℕ) (cells : List Cell) (l : ℕ) (c : Cell) → length letters ≡ length cells → points (letters ++ l ∷ []) (cells ++ c ∷ []) ≡ points letters cells ++ record { letter = l; cell = c } ∷ []
 points-push [] [] l c e = refl
@@ -106,7 +106,7 @@ close_up_fits ranks cells part e h =
     subst (λ ls. FitTogether ls cells) (sym e.0) (subst (λ cs. FitTogether (standardised (letters_of part)) cs) (sym e.1) (FitTogether-closed_up part h))
 
 pub close_up_answer : (ranks : List ℕ) (cells : List Cell) (part : List Point) → (ranks ≡ standardised (letters_of part)) × (cells ≡ cells_of part) → points ranks cells ≡ closed_up part
-close_up_answer ranks cells part e = ap (λ ls. points ls cells) e.0 ∙ ap (λ cs. points (standardised (letters_of part)) cs) e.1
+close_up_answer ranks cells part e = ap (λ ls. points ls cells) e.0 ∙ ap (λ cs. points (standardised (letters_of part)) cs) e.1 ∙ points-closed_up part
 
 -- ---- restrict
 pub fields_as_many : (g : List Point) (letters : List ℕ) (cells : List Cell) → letters ≡ letters_of g → cells ≡ cells_of g → length letters ≡ length cells

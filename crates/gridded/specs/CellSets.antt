@@ -1,7 +1,7 @@
 -- Sets of cells with x and y below 8, as the ascending list of their cells. Bit 8x + y stands for (x, y).
-use Rattle.std.specs.Prelude.{◌≡◌, ◌<◌, ◌≤◌, ℕ, Bool, ◌||◌, ◌==◌, ◌+◌, ◌*◌, ◌^◌, List, filter, ◌⊎◌, ◌↔◌}
+use Rattle.std.specs.Prelude.{◌≡◌, ◌<◌, ◌≤◌, ℕ, Bool, ◌||◌, ◌==◌, ◌+◌, ◌*◌, ◌^◌, cond, List, [], ◌∷◌, map, filter, ◌⊎◌, ◌↔◌}
 use Rattle.std.specs.Int.{bit_at}
-use Rattle.std.specs.List.{list_any, sum_by}
+use Rattle.std.specs.List.{list_any, range_with_len, sum_by}
 use Rattle.patterns.specs.Parts.{IsIn}
 use Rattle.gridded.specs.declared.cell.Cell.{Cell}
 use Rattle.gridded.specs.Grids.{cells_in}
@@ -43,3 +43,12 @@ cells_with_bits bits = cells_that (has_bit bits)
 
 abbrev pub bits_of : List Cell → ℕ
 bits_of set = sum_by (λ c. 2 ^ bit_of c) set
+
+-- ---- column by column
+-- the cell, where it is in the set
+abbrev pub one_of : List Cell → Cell → List Cell
+one_of set c = cond (is_among set c) (c ∷ []) []
+
+-- those of the n lowest cells of a column that are in the set
+abbrev pub column_of : List Cell → ℕ → ℕ → List Cell
+column_of set x n = filter (λ c. is_among set c) (map (λ y. record { x = x; y = y }) (range_with_len 0 n))

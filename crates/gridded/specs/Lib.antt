@@ -15,3 +15,5 @@ pub mod CellBits
 pub mod CellSetOrder
 pub mod Parts
 pub mod Places
+pub mod Moved
+pub mod Small

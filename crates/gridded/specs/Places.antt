@@ -1,19 +1,20 @@
 -- Where the points of a gridded permutation stand, and points in other places.
 use Rattle.std.specs.Prelude.{ℕ, Bool, ◌&&◌, ◌||◌, ◌==◌, nat_lt, List, map, count_by}
-use Rattle.std.specs.List.{position_or_len}
-use Rattle.gridded.specs.declared.axis.Axis.{Axis}
-use Rattle.gridded.specs.declared.axis.Axis.TheVariants as axis
+use Rattle.std.specs.List.{list_all, list_any}
 use Rattle.gridded.specs.declared.cell.Cell.{Cell}
 use Rattle.gridded.specs.Grids.{Point}
+use Rattle.gridded.specs.Orders.{cell_eq, cells_of}
 
--- how far up a point of g stands, or how far right
-abbrev pub rank_along : Axis → List Point → Point → ℕ
-rank_along axis.Row g p = p.letter
-rank_along axis.Column g p = position_or_len (λ q. q.letter == p.letter) g
+-- whether the cells lie in the grid of w columns and h rows
+abbrev pub fits_grid : ℕ → ℕ → List Point → Bool
+fits_grid w h g = list_all (λ c. nat_lt c.x w && nat_lt c.y h) (cells_of g)
 
--- the point with its letter in the cell that F gives it
-abbrev pub relocated : (Point → Cell) → Point → Point
-relocated F q = record { letter = q.letter; cell = F q }
+-- whether some point lies in such a cell
+abbrev pub touches : (Cell → Bool) → List Point → Bool
+touches test g = list_any test (cells_of g)
+
+abbrev pub has_one_point_in : Cell → List Point → Bool
+has_one_point_in c g = count_by (cell_eq c) (cells_of g) == 1
 
 -- whether p lies lower than q: in a lower row, or in the same with a lower letter
 abbrev pub is_below : Point → Point → Bool

@@ -1,16 +1,17 @@
-ghost use Rattle.std.specs.Prelude.{◌≡◌, ◌<◌, ◌↔◌, [], length, slice_get, IsTrue, IsNone, IfSome};
+ghost use Rattle.std.specs.Prelude.{◌≡◌, ◌<◌, ◌↔◌, [], length, slice_get, IsTrue, IsNone, IfSome, IfOk};
 ghost use Rattle.std.specs.Cmp.{partial_equiv_from_equiv};
 ghost use Rattle.patterns.specs.Parts.{IsIn};
 ghost use Rattle.gridded.specs.CellSets.{bit_of, is_among, with_cell, IsCellSet, HasOneMore, IsLeast};
 ghost use Rattle.gridded.specs.CellSetOrder.{set_eq, set_equiv};
 
 use crate::cell::Cell;
+use crate::set_cells::cells_of;
 use sequences::Copied;
 use std::alloc::{AllocError, Global};
 use std::marker::Model;
 
 /// A set of cells with x and y below 8: bit 8x + y stands for (x, y). Contracts see the ascending list of its
-/// cells, by x and then y. None of its calls takes memory.
+/// cells, by x and then y. Only `cells` takes memory.
 #[derive(Clone, Copy, Debug)]
 pub struct CellSet {
     bits: u64,
@@ -87,6 +88,21 @@ impl CellSet {
         bits >> bit_of(cell) & 1 == 1
     }
 
+    /// Whether no cell is in the set.
+    pub fn is_empty(self) -> bool
+        ensures { IsTrue result ↔ (self ≡ []) }
+    {
+        self.least().is_none()
+    }
+
+    /// The cells of the set, ascending by x and then y.
+    pub fn cells(self, alloc: Global) -> Result<Vec<Cell>, AllocError>
+        ensures { IfOk result (λ cells. cells.items ≡ self) }
+    {
+        let _ = self.count();
+        cells_of(alloc, self)
+    }
+
     /// How many cells the set has.
     pub fn count(self) -> u32
         ensures value { result ≡ length self }
@@ -118,7 +134,10 @@ impl PartialEq for CellSet {
 
     ghost laws = { partial_equiv_from_equiv set_equiv };
 
-    fn eq(&self, other: &CellSet) -> bool {
+    fn eq(&self, other: &CellSet) -> bool
+        ensures value { result ≡ set_eq self.now other.now }
+        ensures exact { IsTrue result ↔ (self.now ≡ other.now) }
+    {
         self.bits == other.bits
     }
 }

@@ -1,4 +1,5 @@
-ghost use Rattle.std.specs.Prelude.{◌≡◌, ◌≤◌, length, IfOk, IfErr, OnOk};
+ghost use Rattle.std.specs.Prelude.{◌≡◌, ◌≤◌, ◌↔◌, [], length, IfOk, IfErr, OnOk, IsTrue};
+ghost use Rattle.gridded.specs.Places.{fits_grid};
 ghost use Rattle.gridded.specs.Grids.{letter_of, cell_of, points, IsGridded, FitTogether};
 ghost use Rattle.gridded.specs.Refused.{IsAccepted, IsRefused};
 ghost use Rattle.gridded.specs.declared.fault.GriddedFault.TheVariants.{Memory};
@@ -106,6 +107,22 @@ impl Gridded {
         ensures { result ≡ free_of (cells_of self.now) }
     {
         self.free
+    }
+
+    /// Whether there is no point. Takes no memory.
+    pub fn is_empty(&self) -> bool
+        ensures { IsTrue result ↔ (self.now ≡ []) }
+    {
+        self.len() == 0
+    }
+
+    /// Whether the cells lie in a grid of so many columns and rows. Takes no memory.
+    pub fn fits_grid(&self, width: u8, height: u8) -> bool
+        ensures { result ≡ fits_grid width height self.now }
+    {
+        self.cells()
+            .iter()
+            .all(|cell| cell.x < width && cell.y < height)
     }
 
     /// How many points there are, at most 9. Takes no memory.

@@ -18,6 +18,8 @@ mod gridded;
 mod hold;
 mod laws;
 mod part;
+mod set_cells;
+mod small;
 mod smaller;
 #[cfg(test)]
 mod tests;

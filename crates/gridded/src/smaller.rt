@@ -1,6 +1,6 @@
-ghost use Rattle.std.specs.Prelude.{◌≡◌, ◌<◌, length, IfOk};
+ghost use Rattle.std.specs.Prelude.{◌≡◌, ◌<◌, length, filter, remove, IfOk};
 ghost use Rattle.gridded.specs.CellSets.{is_among};
-ghost use Rattle.gridded.specs.Parts.{without_point, restricted};
+ghost use Rattle.gridded.specs.Parts.{without_point, restricted, IsClosedUp};
 
 use crate::cell_set::CellSet;
 use crate::gridded::Gridded;
@@ -11,7 +11,8 @@ use std::alloc::{AllocError, Global};
 /// letters close up: they are 0, 1, .. in the same relative order. Refused for want of memory alone.
 pub fn without(_alloc: Global, g: &Gridded, index: u32) -> Result<Gridded, AllocError>
     requires { index < length g.now }
-    ensures { IfOk result (λ rest. rest ≡ without_point g.now index) }
+    ensures value { IfOk result (λ rest. rest ≡ without_point g.now index) }
+    ensures closed_up { IfOk result (λ rest. IsClosedUp (remove g.now index) rest) }
 {
     let letters = g.letters();
     let cells = g.cells();
@@ -25,7 +26,9 @@ pub fn without(_alloc: Global, g: &Gridded, index: u32) -> Result<Gridded, Alloc
 /// The points of a gridded permutation whose cells are in a set. The letters close up. Refused for want of
 /// memory alone.
 pub fn restrict(_alloc: Global, g: &Gridded, set: CellSet) -> Result<Gridded, AllocError>
-    ensures { IfOk result (λ part. part ≡ restricted (λ c. is_among set c) g.now) }
+    ensures value { IfOk result (λ part. part ≡ restricted (λ c. is_among set c) g.now) }
+    ensures closed_up { IfOk result
+        (λ part. IsClosedUp (filter (λ p. is_among set p.cell) g.now) part) }
 {
     let letters = g.letters();
     let cells = g.cells();

@@ -16,7 +16,8 @@ use Rattle.gridded.specs.Orders.{gridded_cmp}
 use Rattle.gridded.specs.OrderLaws.{gridded_total, gridded_exact, gridded_ties, gridded_eq_decides}
 use Rattle.sequences.specs.Ascending.{in_order, exact_sequences}
 use Rattle.sequences.proofs.InOrder.{list_all-in_order}
-use Rattle.tiling_core.specs.Tiles.{Tiles, fits_grid, is_member, count}
+use Rattle.tiling_core.specs.Tiles.{Tiles, is_member, count}
+use Rattle.gridded.specs.Places.{fits_grid}
 use Rattle.tiling_core.specs.Measures.{weight}
 use Rattle.tiling_core.specs.Patterns.{also}
 use Rattle.emptiness.specs.Emptiness.{IsEmpty, MembersWithinWeight}

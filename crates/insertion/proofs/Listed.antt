@@ -15,8 +15,8 @@ use Rattle.gridded.specs.CellSets.{cells_that, is_among}
 use Rattle.gridded.proofs.CellSets.{agree_on_cells, is_among_decides, is_among-cells_that}
 use Rattle.gridded.proofs.GriddedLists.{from_IsIn-cells_in}
 use Rattle.tiling_core.specs.Tiles.{Tiles}
-use Rattle.tiling_core.specs.Patterns.{point_at, forbids, active_cells}
-use Rattle.steps.specs.Patterns.{requires_list}
+use Rattle.gridded.specs.Small.{point_at}
+use Rattle.tiling_core.specs.Patterns.{forbids, active_cells, requires_list}
 use Rattle.rule_kinds.specs.declared.kind.Kind.{Kind}
 use Rattle.rule_kinds.specs.Choices.{insertions}
 use Rattle.insertion.specs.Open.{is_open, insert_at, insertion_at, insertions_in}

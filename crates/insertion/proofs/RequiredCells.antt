@@ -11,7 +11,7 @@ use Rattle.gridded.specs.Orders.{cells_of, cell_eq, gridded_eq}
 use Rattle.gridded.specs.CellSets.{cells_that, is_among, IsCellSet, with_cell}
 use Rattle.gridded.proofs.CellSets.{is_among-cells_that}
 use Rattle.tiling_core.specs.Tiles.{IsInGrid}
-use Rattle.tiling_core.specs.Patterns.{point_at}
+use Rattle.gridded.specs.Small.{point_at}
 use Rattle.tiling_core.proofs.GridCells.{same_set, one_point, in_wider_grid}
 
 -- whether the point at a cell is the one pattern of a list

@@ -3,7 +3,7 @@ use Rattle.std.specs.Prelude.{ℕ, Bool, not, ◌&&◌, List, map, filter, cond,
 use Rattle.std.specs.List.{range_with_len}
 use Rattle.gridded.specs.declared.cell.Cell.{Cell}
 use Rattle.gridded.specs.CellSets.{is_among}
-use Rattle.tiling_core.specs.Patterns.{point_at}
+use Rattle.gridded.specs.Small.{point_at}
 use Rattle.rule_kinds.specs.declared.kind.Kind.{Kind}
 use Rattle.rule_kinds.specs.declared.kind.Kind.TheVariants as kind
 

@@ -1,5 +1,5 @@
 ghost use Rattle.std.specs.Prelude.{◌≡◌, ◌<◌, ◌≤◌, ◌++◌, IfOk, OnOk};
-ghost use Rattle.tiling_core.specs.Patterns.{point_at};
+ghost use Rattle.gridded.specs.Small.{point_at};
 ghost use Rattle.rule_kinds.specs.Choices.{insertions};
 ghost use Rattle.insertion.specs.Open.{insertion_at, insertions_in};
 

@@ -3,8 +3,8 @@ ghost use Rattle.std.specs.Cmp.Lexicographic.{pointwise};
 ghost use Rattle.gridded.specs.CellSets.{cells_that, is_among, IsCellSet};
 ghost use Rattle.gridded.specs.Orders.{gridded_eq};
 ghost use Rattle.tiling_core.specs.Tiles.{IsInGrid};
-ghost use Rattle.tiling_core.specs.Patterns.{point_at};
-ghost use Rattle.steps.specs.Patterns.{requires_list};
+ghost use Rattle.gridded.specs.Small.{point_at};
+ghost use Rattle.tiling_core.specs.Patterns.{requires_list};
 
 use gridded::{CellSet, Gridded};
 use tiling_core::Tiling;

@@ -17,16 +17,18 @@ use Rattle.patterns.proofs.Lists.{from_IsIn-map, IsIn-filter, from_IsIn-filter}
 use Rattle.gridded.specs.declared.Axis.{Axis}
 use Rattle.gridded.specs.declared.Axis.TheVariants as axis
 use Rattle.gridded.specs.declared.Cell.{Cell}
-use Rattle.gridded.specs.Axes.{line_of, with_line}
+use Rattle.gridded.specs.Axes.{line_of, with_line, is_on, shares_line}
 use Rattle.gridded.specs.Grids.{Point, holds, cells_in}
 use Rattle.gridded.specs.Orders.{cell_eq, gridded_cmp, gridded_eq, cells_of}
 use Rattle.gridded.specs.OrderLaws.{gridded_eq_decides, gridded_ties}
-use Rattle.tiling_core.specs.Tiles.{Tiles, IsTiling, fits_grid}
+use Rattle.tiling_core.specs.Tiles.{Tiles, IsTiling}
+use Rattle.gridded.specs.Places.{fits_grid, has_one_point_in}
 use Rattle.tiling_core.specs.Same.{tiles_eq, tiles_eq_decides}
-use Rattle.tiling_core.specs.Patterns.{point_at, rising, falling, is_among, forbids, active_cells, holds_another}
+use Rattle.gridded.specs.Small.{point_at, rising, falling}
+use Rattle.tiling_core.specs.Patterns.{is_among, forbids, active_cells, holds_another, requires_list}
 use Rattle.steps.specs.declared.Step.TheVariants.{Min, Clean, Lists, Column, Row, Void}
-use Rattle.steps.specs.Patterns.{is_on, shares_line, has_one_point_in, requires_list}
-use Rattle.steps.specs.Steps.{step_applies, is_nil, is_hopeless, void_tiling, is_isolated, is_other_list, can_be_cleaned, implies_list, is_implied, is_useless, is_untidy, are_untidy, sides, misses, is_blank, close_cell, close_up, without_line}
+use Rattle.steps.specs.Steps.{step_applies, is_nil, is_hopeless, is_isolated, is_other_list, can_be_cleaned, implies_list, is_implied, is_useless, is_untidy, are_untidy, sides, misses, is_blank, close_cell, close_up, without_line}
+use Rattle.tiling_core.specs.Roots.{void_tiling}
 use Rattle.steps.proofs.ListTests.{each_passes, some_passes, which_passes, none_passes, list_all-agree, list_any-agree, list_any-map, at_each}
 use Rattle.steps.proofs.Moved.{holds-moved}
 use Rattle.steps.proofs.MovedOrder.{slice_cmp-map, sorted-map, gridded_cmp-moved, gridded_eq-moved, cell_eq-moved, shares_line-moved}

@@ -25,8 +25,9 @@ use Rattle.tiling_core.specs.Patterns.{holds_another, minimal, forbids, is_among
 use Rattle.tiling_core.proofs.Kept.{lists_exact}
 use Rattle.steps.specs.declared.Step.{Step}
 use Rattle.steps.specs.declared.Step.TheVariants.{Min, Clean, Lists, Column, Row, Void}
-use Rattle.steps.specs.Patterns.{has_one_point_in}
-use Rattle.steps.specs.Steps.{step_applies, step_result, void_tiling, is_nil, is_hopeless, is_isolated, can_be_cleaned, is_other_list, cleaned, cleaned_list, clean, useful, is_implied, tidied, tidy_lists, is_blank, close_up, close_cell, misses, without_line}
+use Rattle.gridded.specs.Places.{has_one_point_in}
+use Rattle.steps.specs.Steps.{step_applies, step_result, is_nil, is_hopeless, is_isolated, can_be_cleaned, is_other_list, cleaned, cleaned_list, clean, useful, is_implied, tidied, tidy_lists, is_blank, close_up, close_cell, misses, without_line}
+use Rattle.tiling_core.specs.Roots.{void_tiling}
 use Rattle.steps.proofs.ListTests.{which_passes, at_each}
 use Rattle.normal_form.specs.Measure.{size, size_of_pattern, size_of_patterns, size_of_list, StepsShrink}
 use Rattle.sequences.proofs.Sums.{in_order_sum}

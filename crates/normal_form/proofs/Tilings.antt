@@ -18,13 +18,14 @@ use Rattle.gridded.specs.Axes.{line_of, with_line}
 use Rattle.gridded.specs.Grids.{Point, IsGridded, holds}
 use Rattle.gridded.specs.Orders.{gridded_cmp, cell_eq}
 use Rattle.gridded.specs.Parts.{restricted}
-use Rattle.gridded.proofs.ClosedUp.{IsGridded-restricted}
-use Rattle.tiling_core.specs.Tiles.{Tiles, IsTiling, IsInGrid, IsKept, AreGridded, tiling_of, fits_grid}
+use Rattle.gridded.proofs.ClosedUp.{IsClosedUp-restricted}
+use Rattle.tiling_core.specs.Tiles.{Tiles, IsTiling, IsInGrid, IsKept, AreGridded, tiling_of}
+use Rattle.gridded.specs.Places.{fits_grid, has_one_point_in}
 use Rattle.tiling_core.specs.Patterns.{holds_another, minimal, is_among}
 use Rattle.tiling_core.proofs.Kept.{IsTiling-in_order, All-ordered}
 use Rattle.steps.specs.declared.Step.TheVariants.{Min, Clean, Lists, Column, Row, Void}
-use Rattle.steps.specs.Patterns.{has_one_point_in}
-use Rattle.steps.specs.Steps.{step_applies, step_result, is_other_list, cleaned, cleaned_list, clean, useful, is_implied, tidied, tidy_lists, is_blank, close_up, misses, without_line, void_tiling, rename, sides}
+use Rattle.steps.specs.Steps.{step_applies, step_result, is_other_list, cleaned, cleaned_list, clean, useful, is_implied, tidied, tidy_lists, is_blank, close_up, misses, without_line, rename, sides}
+use Rattle.tiling_core.specs.Roots.{void_tiling}
 use Rattle.steps.specs.Traces.{replay}
 use Rattle.steps.specs.Kept.{StepsKeepMembers, KeepsMembers, rename_all}
 use Rattle.steps.proofs.ListTests.{at_each, each_passes}
@@ -114,7 +115,7 @@ cleaned_is_gridded : (c : Cell) (g : List Point) → IsGridded g → IsGridded (
 cleaned_is_gridded c g k = go (has_one_point_in c g)
   where
     go : (b : Bool) → IsGridded (if b then restricted (λ d. not (cell_eq c d)) g else g)
-    go true = IsGridded-restricted (λ d. not (cell_eq c d)) g k
+    go true = (IsClosedUp-restricted (λ d. not (cell_eq c d)) g k).gridded
     go false = k
 
 all_cleaned : (w h : ℕ) (c : Cell) (patterns : List (List Point)) → ArePatterns w h patterns → ArePatterns w h (map (cleaned c) patterns)

@@ -16,8 +16,10 @@ use Rattle.gridded.specs.declared.Axis.TheVariants as axis
 use Rattle.gridded.specs.declared.Cell.{Cell}
 use Rattle.gridded.specs.Grids.{Point, cells_in}
 use Rattle.gridded.specs.Orders.{gridded_cmp}
-use Rattle.tiling_core.specs.Tiles.{Tiles, IsTiling, tiling_of, fits_grid}
-use Rattle.tiling_core.specs.Patterns.{rising, forbids, minimal}
+use Rattle.tiling_core.specs.Tiles.{Tiles, IsTiling, tiling_of}
+use Rattle.gridded.specs.Places.{fits_grid}
+use Rattle.gridded.specs.Small.{rising}
+use Rattle.tiling_core.specs.Patterns.{forbids, minimal}
 use Rattle.tiling_core.proofs.Kept.{patterns_ascend, lists_ascend, All-lists}
 use Rattle.steps.specs.declared.Step.{Step}
 use Rattle.steps.specs.declared.Step.TheVariants.{Min, Clean, Lists, Column, Row, Void}

@@ -1,7 +1,8 @@
 -- Laws of parts: they compose, and go through a map and a filter; a part stands at rising places.
 use Rattle.std.proofs.Common.{◌≡◌, ℕ, zero, suc, pred, ◌≤◌, Bool, true, false, cond, List, [], ◌∷◌, length, refl, ap, inl, inr, ⊎_elim, arith}
 use Rattle.std.specs.Prelude.{map, ◌⊎◌}
-use Rattle.std.specs.List.{filter, AllByRecursion}
+use Rattle.std.specs.List.{filter, list_all, AllByRecursion}
+use Rattle.patterns.proofs.Booleans.{and_true, both_true}
 use Rattle.patterns.specs.Parts.{IsPart, IsIn, IsRising, StandAt}
 use Rattle.patterns.specs.Parts.IsIn.{here, later}
 use Rattle.patterns.specs.Parts.IsPart.{none, kept, left_out}
@@ -48,6 +49,11 @@ pub IsPart-as_long : {X : Type 0} {part whole : List X} → IsPart part whole �
 IsPart-as_long none l = refl
 IsPart-as_long (kept x h) l = ap (λ rest. x ∷ rest) (IsPart-as_long h (omega arith))
 IsPart-as_long (left_out x h) l = absurd (omega (arith, length-IsPart h))
+
+pub list_all-IsPart : {X : Type 0} (test : X → Bool) {part whole : List X} → IsPart part whole → list_all test whole ≡ true → list_all test part ≡ true
+list_all-IsPart test none e = e
+list_all-IsPart test (kept {part} {whole} x h) e = let k = and_true (test x) (list_all test whole) e in both_true (test x) (list_all test part) k.0 (list_all-IsPart test h k.1)
+list_all-IsPart test (left_out {whole = whole} x h) e = list_all-IsPart test h (and_true (test x) (list_all test whole) e).1
 
 -- ---- maps and filters
 pub IsPart-map : {X Y : Type 0} (f : X → Y) {a b : List X} → IsPart a b → IsPart (map f a) (map f b)

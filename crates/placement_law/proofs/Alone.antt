@@ -13,95 +13,21 @@ use Rattle.patterns.proofs.Occurrences.{match_tells, match_from, alike_tells}
 use Rattle.gridded.specs.declared.axis.Axis.{Axis}
 use Rattle.gridded.specs.declared.axis.Axis.TheVariants as axis
 use Rattle.gridded.specs.declared.cell.Cell.{Cell}
-use Rattle.gridded.specs.Axes.{line_of}
+use Rattle.gridded.specs.Axes.{line_of, shares_line}
 use Rattle.gridded.specs.Grids.{Point, letter_of, same_cell, holds, cells_in}
 use Rattle.gridded.specs.Orders.{cell_eq}
 use Rattle.gridded.specs.OrderLaws.{cell_eq_decides}
 use Rattle.gridded.specs.Laws.{IsCellOf}
 use Rattle.gridded.proofs.GriddedLists.{IsIn-cells_in}
 use Rattle.tiling_core.specs.Tiles.{Tiles}
-use Rattle.tiling_core.specs.Patterns.{point_at, rising, falling}
-use Rattle.tiling_core.proofs.Deciding.{each_passes, all_pass, holds_decides, false_from, not_held}
-use Rattle.steps.specs.Patterns.{shares_line}
+use Rattle.gridded.specs.Small.{point_at, rising, falling}
+use Rattle.tiling_core.proofs.Deciding.{each_passes, all_pass, false_from, not_held}
+use Rattle.gridded.proofs.Pairs.{two, point_held, holds_its_point, pair_held, holds_pair}
+use Rattle.patterns.proofs.PartLaws.{IsPart-two}
 use Rattle.rule_kinds.specs.Children.{alone_in}
 use Rattle.placement_law.proofs.Positions.{Distinct, letters_apart}
 use Rattle.placement_law.proofs.Thirds.{Standing, standing}
 use Rattle.placement_law.proofs.Thirds.Standing.{less, more, even}
-use Rattle.coord_maps.proofs.Holding.{fits}
-
--- ---- parts of one and of two points
-nothing : (h : List Point) → IsPart [] h
-nothing [] = none
-nothing (x ∷ h) = left_out x (nothing h)
-
-pub one_point : {z : Point} {h : List Point} → IsIn z h → IsPart (z ∷ []) h
-one_point (here {xs = h}) = kept _ (nothing h)
-one_point (later y k) = left_out y (one_point k)
-
-pub two_points : {y z : Point} {h : List Point} → IsIn y h → IsIn z h → (y ≡ z → ⊥) → IsPart (y ∷ z ∷ []) h ⊎ IsPart (z ∷ y ∷ []) h
-two_points here here n = absurd (n refl)
-two_points here (later _ l) n = inl (kept _ (one_point l))
-two_points (later _ k) here n = inr (kept _ (one_point k))
-two_points {y} {z} (later {xs = h} x k) (later _ l) n =
-    ⊎_elim {C = IsPart (y ∷ z ∷ []) (x ∷ h) ⊎ IsPart (z ∷ y ∷ []) (x ∷ h)} (λ a. inl (left_out x a)) (λ a. inr (left_out x a)) (two_points k l n)
-
-pub in_part : {z : Point} {c h : List Point} → IsPart c h → IsIn z c → IsIn z h
-in_part none i = i
-in_part (kept x k) here = here
-in_part (kept x k) (later _ i) = later x (in_part k i)
-in_part (left_out x k) i = later x (in_part k i)
-
--- ---- holding is a part that fits
-pub held_tells : (h p : List Point) → holds h p ≡ true → (c : List Point) × IsPart c h × (fits c p ≡ true)
-held_tells h p e = let k = (holds_decides h p).0 e in (k.points, k.chosen, match_from letter_of same_cell k.points p (record { order = k.order; fit = k.fit }))
-
-pub held_from : (h p c : List Point) → IsPart c h → fits c p ≡ true → holds h p ≡ true
-held_from h p c k e = let m = match_tells letter_of same_cell c p e in (holds_decides h p).1 (record { points = c; chosen = k; order = m.order; fit = m.fit })
-
-pub same_cell_tells : (x a : Point) → same_cell x a ≡ true → x.cell ≡ a.cell
-same_cell_tells x a e =
-    let k = and_true (x.cell.x == a.cell.x) (x.cell.y == a.cell.y) e in
-    let ex = (Decides-eqb x.cell.x a.cell.x).0 k.0 in
-    let ey = (Decides-eqb x.cell.y a.cell.y).0 k.1 in
-    λ i. record { x = ex i; y = ey i }
-
-pub same_cell_from : (x a : Point) → x.cell ≡ a.cell → same_cell x a ≡ true
-same_cell_from x a e = both_true (x.cell.x == a.cell.x) (x.cell.y == a.cell.y) ((Decides-eqb x.cell.x a.cell.x).1 (ap (λ (c : Cell). c.x) e)) ((Decides-eqb x.cell.y a.cell.y).1 (ap (λ (c : Cell). c.y) e))
-
--- ---- one point
-pub point_held : (h : List Point) (m : Cell) → holds h (point_at m) ≡ true → (z : Point) × IsIn z h × (z.cell ≡ m)
-point_held h m e = let k = held_tells h (point_at m) e in go k.0 k.1 k.2
-  where
-    go : (c : List Point) → IsPart c h → fits c (point_at m) ≡ true → (z : Point) × IsIn z h × (z.cell ≡ m)
-    go [] k f = absurd cc
-    go (z ∷ c) k f = (z, in_part k here, same_cell_tells z (record { letter = 0; cell = m }) (and_true (same_cell z (record { letter = 0; cell = m })) _ f).0)
-
-pub holds_its_point : (h : List Point) (z : Point) (m : Cell) → IsIn z h → z.cell ≡ m → holds h (point_at m) ≡ true
-holds_its_point h z m i e = held_from h (point_at m) (z ∷ []) (one_point i) (both_true (same_cell z (record { letter = 0; cell = m })) true (same_cell_from z (record { letter = 0; cell = m }) e) refl)
-
--- ---- two points
-abbrev two : ℕ → ℕ → Cell → List Point
-two k l m = record { letter = k; cell = m } ∷ record { letter = l; cell = m } ∷ []
-
-pair_held : (h : List Point) (k l : ℕ) (m : Cell) → holds h (two k l m) ≡ true → (y : Point) × (z : Point) × IsIn y h × IsIn z h × (y.cell ≡ m) × (z.cell ≡ m) × (stand_alike y.letter k z.letter l ≡ true)
-pair_held h k l m e = let f = held_tells h (two k l m) e in go f.0 f.1 f.2
-  where
-    go : (c : List Point) → IsPart c h → fits c (two k l m) ≡ true → (y : Point) × (z : Point) × IsIn y h × IsIn z h × (y.cell ≡ m) × (z.cell ≡ m) × (stand_alike y.letter k z.letter l ≡ true)
-    go [] i f = absurd cc
-    go (y ∷ []) i f = absurd (let a = (and_true (same_cell y (record { letter = k; cell = m })) _ f).1 in cc)
-    go (y ∷ z ∷ c) i f =
-        let a = and_true (same_cell y (record { letter = k; cell = m })) _ f in
-        let b = and_true (stands_as letter_of same_cell y (record { letter = k; cell = m }) (z ∷ c) (record { letter = l; cell = m } ∷ [])) (fits (z ∷ c) (record { letter = l; cell = m } ∷ [])) a.1 in
-        let s = and_true (stand_alike y.letter k z.letter l) _ b.0 in
-        let d = and_true (same_cell z (record { letter = l; cell = m })) _ b.1 in
-        (y, z, in_part i here, in_part i (later y here), same_cell_tells y (record { letter = k; cell = m }) a.0, same_cell_tells z (record { letter = l; cell = m }) d.0, s.0)
-
-holds_pair : (h : List Point) (k l : ℕ) (m : Cell) (y z : Point) → IsPart (y ∷ z ∷ []) h → y.cell ≡ m → z.cell ≡ m → stand_alike y.letter k z.letter l ≡ true → holds h (two k l m) ≡ true
-holds_pair h k l m y z i e f s =
-    held_from h (two k l m) (y ∷ z ∷ []) i
-    (both_true (same_cell y (record { letter = k; cell = m })) _ (same_cell_from y (record { letter = k; cell = m }) e)
-    (both_true (stand_alike y.letter k z.letter l && true) _ (both_true (stand_alike y.letter k z.letter l) true s refl)
-    (both_true (same_cell z (record { letter = l; cell = m })) true (same_cell_from z (record { letter = l; cell = m }) f) refl)))
 
 -- ---- alone
 pub record IsOnly (m : Cell) (h : List Point) (z : Point) : Type 0 where
@@ -112,9 +38,9 @@ pub record IsOnly (m : Cell) (h : List Point) (z : Point) : Type 0 where
 only_there : (m : Cell) (h : List Point) (z y : Point) → IsOnly m h z → IsIn y h → y.cell ≡ m → y ≡ z
 only_there m h z y k i e = k.only axis.Column y i (ap (λ (c : Cell). c.x) e)
 
-no_pair : (m : Cell) (h : List Point) (z : Point) (k l : ℕ) → (k ≡ l → ⊥) → IsOnly m h z → holds h (two k l m) ≡ true → ⊥
+no_pair : (m : Cell) (h : List Point) (z : Point) (k l : ℕ) → (k ≡ l → ⊥) → IsOnly m h z → holds h (two k l m m) ≡ true → ⊥
 no_pair m h z k l n o e =
-    let p = pair_held h k l m e in
+    let p = pair_held h k l m m e in
     let y = only_there m h z p.0 o p.2 p.4 in
     let x = only_there m h z p.1 o p.3 p.5 in
     let s : p.0.letter ≡ p.1.letter = ap (λ (w : Point). w.letter) (y ∙ sym x) in
@@ -165,18 +91,18 @@ only_from t m h d inside e z i at = record {
     rest = and_true (not (holds h (falling m m))) (list_all (λ p. not (holds h p)) (others t m)) first.1
 
     both_ways : (y : Point) → y.cell ≡ m → (u v : Point) → u.cell ≡ m → v.cell ≡ m → IsPart (u ∷ v ∷ []) h → Standing u.letter v.letter → u.letter ≡ v.letter
-    both_ways y f u v g k p (less q) = absurd (not_held (holds h (rising m m)) first.0 (holds_pair h 0 1 m u v p g k (grind (arith, nat_tests, q))))
-    both_ways y f u v g k p (more q) = absurd (not_held (holds h (falling m m)) rest.0 (holds_pair h 1 0 m u v p g k (grind (arith, nat_tests, q))))
+    both_ways y f u v g k p (less q) = absurd (not_held (holds h (rising m m)) first.0 (holds_pair h 0 1 m m u v p g k (grind (arith, nat_tests, q))))
+    both_ways y f u v g k p (more q) = absurd (not_held (holds h (falling m m)) rest.0 (holds_pair h 1 0 m m u v p g k (grind (arith, nat_tests, q))))
     both_ways y f u v g k p (even q) = q
 
     one_letter : (y : Point) → IsIn y h → y.cell ≡ m → Standing y.letter z.letter → y.letter ≡ z.letter
     one_letter y j f (even q) = q
     one_letter y j f (less q) =
         ⊎_elim {C = y.letter ≡ z.letter} (λ p. both_ways y f y z f at p (standing y.letter z.letter)) (λ p. sym (both_ways y f z y at f p (standing z.letter y.letter)))
-        (two_points j i (λ s. let w : y.letter ≡ z.letter = ap (λ (x : Point). x.letter) s in omega arith))
+        (IsPart-two j i (λ s. let w : y.letter ≡ z.letter = ap (λ (x : Point). x.letter) s in omega arith))
     one_letter y j f (more q) =
         ⊎_elim {C = y.letter ≡ z.letter} (λ p. both_ways y f y z f at p (standing y.letter z.letter)) (λ p. sym (both_ways y f z y at f p (standing z.letter y.letter)))
-        (two_points j i (λ s. let w : y.letter ≡ z.letter = ap (λ (x : Point). x.letter) s in omega arith))
+        (IsPart-two j i (λ s. let w : y.letter ≡ z.letter = ap (λ (x : Point). x.letter) s in omega arith))
 
     shares : (a : Axis) (c : Cell) → line_of a c ≡ line_of a m → shares_line c m ≡ true
     shares axis.Column c f = let k : (c.x == m.x) ≡ true = (Decides-eqb c.x m.x).1 f in rw k refl

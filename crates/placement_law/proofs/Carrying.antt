@@ -13,7 +13,7 @@ use Rattle.patterns.proofs.Lists.{IsIn-map, from_IsIn-map, IsIn-filter, from_IsI
 use Rattle.gridded.specs.declared.axis.Axis.{Axis}
 use Rattle.gridded.specs.declared.axis.Axis.TheVariants as axis
 use Rattle.gridded.specs.declared.cell.Cell.{Cell}
-use Rattle.gridded.specs.Axes.{line_of}
+use Rattle.gridded.specs.Axes.{line_of, rank_along}
 use Rattle.gridded.specs.Grids.{Point, holds, is_consistent}
 use Rattle.gridded.specs.Orders.{cell_eq}
 use Rattle.gridded.specs.OrderLaws.{cell_eq_decides}
@@ -24,7 +24,8 @@ use Rattle.tiling_core.specs.Patterns.{also}
 use Rattle.tiling_core.proofs.Deciding.{is_member_decides, fits_grid_decides, each_passes, all_pass, one_passes, some_passes, false_from, not_held}
 use Rattle.tiling_core.proofs.Ordered.{is_member-also}
 use Rattle.coord_maps.specs.LineMaps.{old_line, part_at, in_three}
-use Rattle.coord_maps.specs.GridMaps.{IsGridMap, collapse, moved, old_cell}
+use Rattle.coord_maps.specs.GridMaps.{IsGridMap, collapse, old_cell}
+use Rattle.gridded.specs.Moved.{moved, relocated}
 use Rattle.coord_maps.specs.Laws.{PreimagesAreListed, StretchKeepsMembers, CollapseIsGridded}
 use Rattle.rule_kinds.specs.Pointeds.{PointedPattern}
 use Rattle.rule_kinds.specs.declared.kind.Direction.{Direction}
@@ -36,7 +37,6 @@ use Rattle.rule_kinds.specs.Children.{around, middle, placed, patterns_pointed, 
 use Rattle.rule_kinds.specs.Conditions as D
 use Rattle.rule_kinds.specs.Conditions.{applies, all_distinct, on_one_line}
 use Rattle.rule_kinds.specs.Carry.{Image, is_pointed_by, pointed_points, farthest, split, number_of, pattern_of_child, split_cell}
-use Rattle.gridded.specs.Places.{rank_along, relocated}
 use Rattle.rule_kinds.specs.Carried.{numbered_image, from_image, IsCarriedOneToOne}
 use Rattle.tiling_core.proofs.Further.{holding_none, from_further}
 use Rattle.placement_law.specs.Placing.{PlacementsCarryMembers}

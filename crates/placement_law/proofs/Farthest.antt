@@ -11,7 +11,7 @@ use Rattle.tiling_core.proofs.Deciding.{each_passes, all_pass}
 use Rattle.rule_kinds.specs.declared.kind.Direction.{Direction}
 use Rattle.rule_kinds.specs.declared.kind.Direction.TheVariants.{North, South, East, West}
 use Rattle.rule_kinds.specs.Kinds.{axis_of, is_farther}
-use Rattle.gridded.specs.Places.{rank_along}
+use Rattle.gridded.specs.Axes.{rank_along}
 use Rattle.rule_kinds.specs.Carry.{farthest}
 
 -- ---- directions

@@ -9,14 +9,15 @@ use Rattle.patterns.specs.Parts.IsIn.{here, later}
 use Rattle.patterns.specs.Occurs.{stands_as, is_match}
 use Rattle.patterns.proofs.Booleans.{and_true, both_true}
 use Rattle.patterns.proofs.Lists.{IsIn-filter, from_IsIn-filter}
-use Rattle.patterns.proofs.PartLaws.{IsPart-map, from_IsPart-map}
+use Rattle.patterns.proofs.PartLaws.{IsPart-map, from_IsPart-map, IsIn-IsPart}
 use Rattle.patterns.proofs.Occurrences.{IsIn-parts, from_IsIn-parts}
 use Rattle.gridded.specs.declared.cell.Cell.{Cell}
 use Rattle.gridded.specs.Grids.{Point, letter_of, same_cell, holds, is_consistent, IsGridded}
 use Rattle.tiling_core.proofs.Deciding.{one_passes, some_passes}
 use Rattle.coord_maps.specs.declared.grid_map.GridMap.{GridMap}
 use Rattle.coord_maps.specs.LineMaps.{new_lines}
-use Rattle.coord_maps.specs.GridMaps.{old_cell, moved, collapse, fits_new}
+use Rattle.coord_maps.specs.GridMaps.{old_cell, collapse, fits_new}
+use Rattle.gridded.specs.Moved.{moved}
 use Rattle.coord_maps.specs.Preimages.{preimages}
 use Rattle.coord_maps.specs.Laws.{PreimagesAreListed}
 use Rattle.rule_kinds.specs.Pointeds.{PointedPattern}
@@ -24,8 +25,9 @@ use Rattle.rule_kinds.specs.Kinds.{IsPointed, point_of, pointed_cell}
 use Rattle.rule_kinds.specs.Children.{lifts_pointed}
 use Rattle.rule_kinds.specs.Carry.{is_pointed_by}
 use Rattle.placement_law.proofs.Positions.{Distinct, letters_apart}
-use Rattle.coord_maps.proofs.Holding.{lifted, fits, fits-lifted, moved-lifted, consistent-lifted, consistent_part, lifted_fits, part_fits, fits_moved}
-use Rattle.placement_law.proofs.Alone.{in_part, held_tells, held_from, same_cell_tells}
+use Rattle.gridded.proofs.Lifting.{lifted, fits-lifted, moved-lifted, consistent-lifted, lifted_fits, part_fits, fits_moved}
+use Rattle.gridded.proofs.Holding.{fits, held_tells, held_from, same_cell_tells}
+use Rattle.gridded.proofs.Consistent.{consistent_part}
 
 -- ---- the point at a place
 pub point_in_list : (c : List Point) (i : ℕ) → i < length c → IsIn (point_of c i) c
@@ -87,7 +89,7 @@ within_chosen c q k e = let l = fits_length c q.pattern e in let b = k.place in 
 
 -- the marked point is the one with its letter
 marked_point : (g : List Point) (q : PointedPattern) (p : Point) → Distinct g → IsPointed q → IsIn p g → (k : IsMarked g q p) → point_of k.chosen q.index ≡ p
-marked_point g q p d o i k = letters_apart g d (point_of k.chosen q.index) p (in_part k.part (point_in_list k.chosen q.index (within_chosen k.chosen q o k.fit))) i k.marks
+marked_point g q p d o i k = letters_apart g d (point_of k.chosen q.index) p (IsIn-IsPart k.part (point_in_list k.chosen q.index (within_chosen k.chosen q o k.fit))) i k.marks
 
 -- a point lies in the pointed cell of what points to it
 pub pointed_cell_is : (g : List Point) (q : PointedPattern) (p : Point) → Distinct g → IsPointed q → IsIn p g → is_pointed_by g q p ≡ true → p.cell ≡ pointed_cell q
@@ -102,7 +104,7 @@ pub pointed_when_held : (g : List Point) (q : PointedPattern) → IsPointed q �
 pointed_when_held g q o e =
     let k = held_tells g q.pattern e in
     let z = point_of k.0 q.index in
-    (z, in_part k.1 (point_in_list k.0 q.index (within_chosen k.0 q o k.2)), marked_from g q z (record { chosen = k.0; part = k.1; fit = k.2; marks = refl }))
+    (z, IsIn-IsPart k.1 (point_in_list k.0 q.index (within_chosen k.0 q o k.2)), marked_from g q z (record { chosen = k.0; part = k.1; fit = k.2; marks = refl }))
 
 -- ---- preimages
 module _ (listed : PreimagesAreListed) (m : GridMap) (h : List Point) where
@@ -128,7 +130,7 @@ module _ (listed : PreimagesAreListed) (m : GridMap) (h : List Point) where
       let within : q.index < length c.0 = omega arith in
       let letter : (point_of c.0 q.index).letter ≡ z.letter =
       sym (ap (λ (w : Point). w.letter) (point_of_map (moved (old_cell m)) c.0 q.index within)) ∙ sym (ap (λ (w : List Point). (point_of w q.index).letter) c.2) ∙ k.marks in
-      let same : point_of c.0 q.index ≡ z = letters_apart h d (point_of c.0 q.index) z (in_part c.1 (point_in_list c.0 q.index within)) j letter in
+      let same : point_of c.0 q.index ≡ z = letters_apart h d (point_of c.0 q.index) z (IsIn-IsPart c.1 (point_in_list c.0 q.index within)) j letter in
       let at : (point_of (lifted c.0 q.pattern) q.index).cell ≡ z.cell = lifted_cell c.0 q.pattern q.index long o.place ∙ ap (λ (w : Point). w.cell) same in
       let r = marked_preimage q.pattern c.0 o.gridded e i c.1 f in
       some_passes (λ g. holds h g) (IsIn-filter (λ g. test (point_of g q.index).cell) r.0 (ap test at ∙ t)) r.1
@@ -149,7 +151,7 @@ module _ (listed : PreimagesAreListed) (m : GridMap) (h : List Point) where
       let z = point_of c.0 q.index in
       let at : z.cell ≡ (point_of l.0 q.index).cell = fits_cell c.0 l.0 q.index c.2 inside in (
         z,
-        in_part c.1 (point_in_list c.0 q.index within),
+        IsIn-IsPart c.1 (point_in_list c.0 q.index within),
         ap test at ∙ a.1,
         marked_from (collapse m h) q z (record { chosen = collapse m c.0; part = IsPart-map (moved (old_cell m)) c.1; fit = f; marks = ap (λ (w : Point). w.letter) (point_of_map (moved (old_cell m)) c.0 q.index within) }),
       )

@@ -14,7 +14,7 @@ use Rattle.gridded.specs.OrderLaws.{cell_eq_decides}
 use Rattle.gridded.specs.Laws.{IsGriddedOf}
 use Rattle.tiling_core.specs.Tiles.{Tiles, IsTiling, is_member}
 use Rattle.tiling_core.specs.Carried.{MemberOf}
-use Rattle.tiling_core.specs.Patterns.{point_at}
+use Rattle.gridded.specs.Small.{point_at}
 use Rattle.tiling_core.proofs.Deciding.{is_member_decides, fits_grid_decides, each_passes, all_pass, one_passes, some_passes, false_from, not_held}
 use Rattle.tiling_core.proofs.Ordered.{is_member-also}
 use Rattle.coord_maps.specs.declared.grid_map.GridMap.{GridMap}
@@ -27,7 +27,8 @@ use Rattle.rule_kinds.specs.Kinds.{IsPointed}
 use Rattle.rule_kinds.specs.Children.{around, over_of, middle_of, is_beyond, alone_in, lifts_pointed, placed}
 use Rattle.rule_kinds.specs.Carry.{is_pointed_by}
 use Rattle.placement_law.proofs.Splits.{cell_inside}
-use Rattle.placement_law.proofs.Alone.{IsOnly, avoids_alone, only_from, holds_its_point}
+use Rattle.placement_law.proofs.Alone.{IsOnly, avoids_alone, only_from}
+use Rattle.gridded.proofs.Pairs.{holds_its_point}
 use Rattle.placement_law.proofs.Marked.{pointed_held, held_pointed}
 
 -- what a member h of the child of q is, where g is its collapse

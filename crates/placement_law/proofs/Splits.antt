@@ -10,14 +10,14 @@ use Rattle.patterns.proofs.Lists.{from_IsIn-map}
 use Rattle.gridded.specs.declared.axis.Axis.{Axis}
 use Rattle.gridded.specs.declared.axis.Axis.TheVariants as axis
 use Rattle.gridded.specs.declared.cell.Cell.{Cell}
-use Rattle.gridded.specs.Axes.{line_of}
+use Rattle.gridded.specs.Axes.{line_of, rank_along}
 use Rattle.gridded.specs.Grids.{Point, is_consistent}
 use Rattle.gridded.specs.Orders.{cells_of}
-use Rattle.gridded.specs.Places.{rank_along, relocated}
+use Rattle.gridded.specs.Moved.{relocated, moved}
 use Rattle.gridded.specs.Laws.{IsCellOf, IsGriddedOf}
 use Rattle.tiling_core.specs.Tiles.{Tiles}
 use Rattle.coord_maps.specs.LineMaps.{part_at}
-use Rattle.coord_maps.specs.GridMaps.{collapse, moved, old_cell}
+use Rattle.coord_maps.specs.GridMaps.{collapse, old_cell}
 use Rattle.rule_kinds.specs.Children.{around, middle}
 use Rattle.rule_kinds.specs.Carry.{split_cell, split}
 use Rattle.placement_law.proofs.Positions.{pos, Distinct, IsAlong, along, consistent_along, letters_relocated, pos_relocated}

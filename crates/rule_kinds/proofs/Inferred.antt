@@ -15,7 +15,8 @@ use Rattle.sequences.proofs.InOrder.{in_order-is}
 use Rattle.tiling_core.specs.Tiles.{Tiles}
 use Rattle.tiling_core.specs.Carried.{MemberOf}
 use Rattle.tiling_core.specs.Patterns.{also}
-use Rattle.tiling_core.proofs.Deciding.{is_member_decides, holds_decides, fits_grid_decides, each_passes, all_pass, one_passes, some_passes, not_held, false_from}
+use Rattle.tiling_core.proofs.Deciding.{is_member_decides, fits_grid_decides, each_passes, all_pass, one_passes, some_passes, not_held, false_from}
+use Rattle.gridded.proofs.Holding.{holds_decides}
 use Rattle.tiling_core.proofs.Single.{count_without_members}
 use Rattle.emptiness.specs.Emptiness.{MembersWithinWeight, IsHeldByMember, IsInferable, IsInferredOf}
 use Rattle.rule_kinds.specs.Lines.{is_active, in_grid, lies_in}

@@ -4,8 +4,9 @@ use Rattle.std.specs.Prelude.{All}
 use Rattle.std.proofs.lemmas.List.Elements.{All-append, All-from_recursion}
 use Rattle.std.proofs.lemmas.Bool.Decides.{nat_tests}
 use Rattle.gridded.specs.Grids.{Point}
-use Rattle.tiling_core.specs.Tiles.{IsInGrid, fits_grid}
-use Rattle.tiling_core.specs.Patterns.{point_at}
+use Rattle.tiling_core.specs.Tiles.{IsInGrid}
+use Rattle.gridded.specs.Places.{fits_grid}
+use Rattle.gridded.specs.Small.{point_at}
 use Rattle.tiling_core.specs.Roots.{only_cell}
 
 pub IsInGrid-append : (w h : ℕ) (xs ys : List (List Point)) → IsInGrid w h xs → IsInGrid w h ys → IsInGrid w h (xs ++ ys)

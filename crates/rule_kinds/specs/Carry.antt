@@ -7,15 +7,16 @@ use Rattle.patterns.specs.Occurs.{is_match}
 use Rattle.gridded.specs.declared.axis.Axis.{Axis}
 use Rattle.gridded.specs.declared.axis.Axis.TheVariants as axis
 use Rattle.gridded.specs.declared.cell.Cell.{Cell}
-use Rattle.gridded.specs.Axes.{line_of}
+use Rattle.gridded.specs.Axes.{line_of, rank_along}
 use Rattle.gridded.specs.CellSets.{is_among as has_cell}
 use Rattle.gridded.specs.Grids.{Point, letter_of, same_cell, holds}
 use Rattle.gridded.specs.Orders.{cell_eq}
 use Rattle.gridded.specs.Parts.{restricted}
-use Rattle.gridded.specs.Places.{rank_along, relocated, lettered}
+use Rattle.gridded.specs.Moved.{relocated, move_cells}
+use Rattle.gridded.specs.Places.{lettered}
 use Rattle.tiling_core.specs.Tiles.{Tiles}
 use Rattle.coord_maps.specs.LineMaps.{part_at}
-use Rattle.coord_maps.specs.GridMaps.{move_cells, collapse}
+use Rattle.coord_maps.specs.GridMaps.{collapse}
 use Rattle.rule_kinds.specs.Lines.{on_line, numbers_below}
 use Rattle.rule_kinds.specs.Pointeds.{PointedPattern}
 use Rattle.rule_kinds.specs.declared.kind.Direction.{Direction}

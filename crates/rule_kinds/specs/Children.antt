@@ -4,17 +4,17 @@ use Rattle.std.specs.List.{list_all}
 use Rattle.gridded.specs.declared.axis.Axis.{Axis}
 use Rattle.gridded.specs.declared.axis.Axis.TheVariants as axis
 use Rattle.gridded.specs.declared.cell.Cell.{Cell}
-use Rattle.gridded.specs.Axes.{line_of}
+use Rattle.gridded.specs.Axes.{line_of, shares_line}
 use Rattle.gridded.specs.CellSets.{is_among as has_cell}
 use Rattle.gridded.specs.Grids.{Point}
 use Rattle.gridded.specs.Orders.{cell_eq}
 use Rattle.tiling_core.specs.Tiles.{Tiles, tiling_of}
-use Rattle.tiling_core.specs.Patterns.{point_at, rising, falling, also}
+use Rattle.gridded.specs.Small.{point_at, rising, falling}
+use Rattle.tiling_core.specs.Patterns.{also}
 use Rattle.coord_maps.specs.declared.grid_map.GridMap.{GridMap}
 use Rattle.coord_maps.specs.LineMaps.{Cut}
 use Rattle.coord_maps.specs.Preimages.{preimages}
 use Rattle.coord_maps.specs.Stretches.{stretch}
-use Rattle.steps.specs.Patterns.{shares_line}
 use Rattle.rule_kinds.specs.Lines.{on_line, lines, lies_in, cells_of_grid, active_on}
 use Rattle.rule_kinds.specs.Pointeds.{PointedPattern}
 use Rattle.rule_kinds.specs.declared.kind.Direction.{Direction}

@@ -10,8 +10,10 @@ use Rattle.gridded.specs.Orders.{cell_eq, cell_cmp, gridded_eq, gridded_cmp}
 use Rattle.sequences.specs.Ascending.{in_order}
 use Rattle.tiling_core.specs.Tiles.{Tiles}
 use Rattle.tiling_core.specs.Measures.{weight}
-use Rattle.tiling_core.specs.Patterns.{point_at, forbids, active_cells}
-use Rattle.steps.specs.Patterns.{touches, shares_line, requires_list}
+use Rattle.gridded.specs.Small.{point_at}
+use Rattle.tiling_core.specs.Patterns.{forbids, active_cells, requires_list}
+use Rattle.gridded.specs.Places.{touches}
+use Rattle.gridded.specs.Axes.{shares_line}
 use Rattle.steps.specs.Steps.{is_nil}
 use Rattle.rule_kinds.specs.Lines.{lines, active_on, numbers_below}
 use Rattle.rule_kinds.specs.Pointeds.{PointedPattern}

@@ -5,19 +5,19 @@ use Rattle.std.specs.Cmp.Lexicographic.{pointwise, slice_cmp}
 use Rattle.gridded.specs.declared.axis.Axis.{Axis}
 use Rattle.gridded.specs.declared.axis.Axis.TheVariants as axis
 use Rattle.gridded.specs.declared.cell.Cell.{Cell}
-use Rattle.gridded.specs.Axes.{line_of}
+use Rattle.gridded.specs.Axes.{line_of, shares_line}
 use Rattle.gridded.specs.CellSets.{is_among as has_cell}
 use Rattle.gridded.specs.Grids.{Point, holds}
 use Rattle.gridded.specs.Orders.{cell_eq, cell_cmp, gridded_eq, gridded_cmp}
 use Rattle.sequences.specs.Ascending.{in_order}
 use Rattle.tiling_core.specs.Tiles.{Tiles, count}
 use Rattle.tiling_core.specs.Measures.{weight}
-use Rattle.tiling_core.specs.Patterns.{rising, falling, forbids, active_cells, also}
+use Rattle.gridded.specs.Small.{rising, falling}
+use Rattle.tiling_core.specs.Patterns.{forbids, active_cells, also}
 use Rattle.tiling_core.specs.Roots.{unit_tiling, point_tiling}
 use Rattle.tiling_core.specs.Same.{tiles_eq}
 use Rattle.coord_maps.specs.declared.grid_map.GridMap.{GridMap}
 use Rattle.coord_maps.specs.Preimages.{preimages}
-use Rattle.steps.specs.Patterns.{shares_line}
 use Rattle.steps.specs.Steps.{is_nil}
 use Rattle.rule_kinds.specs.Lines.{lines, lies_in, in_grid, is_active, active_on, numbers_below}
 use Rattle.rule_kinds.specs.Pointeds.{PointedPattern}

@@ -6,8 +6,10 @@ use Rattle.gridded.specs.declared.cell.Cell.{Cell}
 use Rattle.gridded.specs.Axes.{line_of, with_line}
 use Rattle.gridded.specs.Grids.{Point, cells_in}
 use Rattle.gridded.specs.Orders.{cells_of}
-use Rattle.tiling_core.specs.Tiles.{Tiles, fits_grid}
-use Rattle.tiling_core.specs.Patterns.{active_cells, forbids, point_at}
+use Rattle.tiling_core.specs.Tiles.{Tiles}
+use Rattle.gridded.specs.Places.{fits_grid}
+use Rattle.tiling_core.specs.Patterns.{active_cells, forbids}
+use Rattle.gridded.specs.Small.{point_at}
 use Rattle.steps.specs.Steps.{sides}
 
 -- how many lines there are

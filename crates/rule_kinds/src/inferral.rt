@@ -3,7 +3,8 @@ ghost use Rattle.std.specs.List.{list_all, list_any};
 ghost use Rattle.gridded.specs.Grids.{holds};
 ghost use Rattle.steps.specs.Steps.{is_nil};
 ghost use Rattle.tiling_core.specs.Measures.{weight};
-ghost use Rattle.tiling_core.specs.Patterns.{also, forbids, point_at};
+ghost use Rattle.tiling_core.specs.Patterns.{also, forbids};
+ghost use Rattle.gridded.specs.Small.{point_at};
 ghost use Rattle.rule_kinds.specs.Lines.{in_grid, is_active, lies_in};
 ghost use Rattle.rule_kinds.specs.Conditions.{ascends, has_no_member, is_inferable};
 

@@ -1,5 +1,5 @@
 ghost use Rattle.std.specs.Prelude.{◌≡◌, IfOk};
-ghost use Rattle.tiling_core.specs.Patterns.{point_at};
+ghost use Rattle.gridded.specs.Small.{point_at};
 ghost use Rattle.tiling_core.specs.Roots.{only_cell, unit_tiling, point_tiling};
 
 use gridded::{Cell, Gridded};

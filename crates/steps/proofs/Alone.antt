@@ -9,12 +9,12 @@ use Rattle.patterns.proofs.Lists.{IsIn-filter, from_IsIn-filter}
 use Rattle.gridded.specs.declared.axis.Axis.{Axis}
 use Rattle.gridded.specs.declared.axis.Axis.TheVariants.{Column, Row}
 use Rattle.gridded.specs.declared.cell.Cell.{Cell}
-use Rattle.gridded.specs.Axes.{line_of, across}
+use Rattle.gridded.specs.Axes.{line_of, across, is_on, cell_on, shares_line}
 use Rattle.gridded.specs.Grids.{cells_in}
 use Rattle.gridded.specs.Orders.{cell_eq}
 use Rattle.tiling_core.specs.Tiles.{Tiles}
-use Rattle.tiling_core.specs.Patterns.{point_at, forbids, active_cells, rising, falling}
-use Rattle.steps.specs.Patterns.{is_on, cell_on, shares_line, requires_list}
+use Rattle.gridded.specs.Small.{point_at, rising, falling}
+use Rattle.tiling_core.specs.Patterns.{forbids, active_cells, requires_list}
 use Rattle.steps.specs.Steps.{sides, is_isolated}
 use Rattle.steps.proofs.ListTests.{which_passes, some_passes}
 use Rattle.steps.proofs.OnLine.{on_its_line, cell_on_is_in, cell_on_is_on, cells_tell}

@@ -19,59 +19,12 @@ use Rattle.gridded.specs.Orders.{cell_eq, letters_of, cells_of}
 use Rattle.gridded.specs.OrderLaws.{cell_eq_decides}
 use Rattle.gridded.specs.PointLaws.{letters_of-points}
 use Rattle.gridded.specs.Parts.{restricted}
-use Rattle.steps.specs.Patterns.{has_one_point_in}
+use Rattle.gridded.specs.Places.{has_one_point_in}
 use Rattle.steps.specs.Steps.{cleaned}
-use Rattle.steps.proofs.Holding.{holds_tells, holds_from, holds_trans, holds_part, same_cell_from}
+use Rattle.gridded.proofs.ClosedUp.{closed_up_is_held}
+use Rattle.gridded.proofs.Holding.{holds_tells, holds_from, holds_trans, holds_part, same_cell_from}
 use Rattle.steps.proofs.PutBack.{IsLone, IsOnly, outside, put_back}
 use Rattle.steps.proofs.PutBack.IsOnly.{only_first, only_next}
-
--- ---- a pattern and its standard form
-cells_fit : (q : List Point) (ls : List ℕ) → length ls ≡ length q → AllZip (λ x a. same_cell x a ≡ true) (points ls (cells_of q)) q
-cells_fit [] [] e = tt
-cells_fit [] (l ∷ ls) e = absurd (omega arith)
-cells_fit (x ∷ q) [] e = absurd (omega arith)
-cells_fit (x ∷ q) (l ∷ ls) e = (same_cell_from (record { letter = l; cell = x.cell }) x refl, cells_fit q ls (omega arith))
-
-cells_fit_back : (q : List Point) (ls : List ℕ) → length ls ≡ length q → AllZip (λ x a. same_cell x a ≡ true) q (points ls (cells_of q))
-cells_fit_back [] [] e = tt
-cells_fit_back [] (l ∷ ls) e = absurd (omega arith)
-cells_fit_back (x ∷ q) [] e = absurd (omega arith)
-cells_fit_back (x ∷ q) (l ∷ ls) e = (same_cell_from x (record { letter = l; cell = x.cell }) refl, cells_fit_back q ls (omega arith))
-
--- the letters from 0 on in the same order, in the same cells
-abbrev standard : List Point → List Point
-standard q = points (standardised (letters_of q)) (cells_of q)
-
-pub as_many : (q : List Point) → length (standardised (letters_of q)) ≡ length q
-as_many q = (standardised_same_order (letters_of q)).as_many ∙ length-map q letter_of
-
-letters_standard : (q : List Point) → letters_of (standard q) ≡ standardised (letters_of q)
-letters_standard q = letters_of-points (standardised (letters_of q)) (cells_of q) (as_many q ∙ sym (length-map q cell_of))
-
-standard_holds : (q : List Point) → holds (standard q) q ≡ true
-standard_holds q = holds_from (standard q) q (record {
-  points = standard q;
-  chosen = IsPart-itself (standard q);
-  order = rw (letters_standard q) (standardised_same_order (letters_of q));
-  fit = cells_fit q (standardised (letters_of q)) (as_many q);
-})
-
-turned : (xs ys : List ℕ) → IsSameOrder xs ys → IsSameOrder ys xs
-turned xs ys h = record {
-  as_many = sym h.as_many;
-  alike = λ i j k l. let m = h.as_many in let u = h.alike i j (omega arith) (omega arith) in (u.1, u.0);
-}
-
-holds_standard : (q : List Point) → holds q (standard q) ≡ true
-holds_standard q = holds_from q (standard q) (record {
-  points = q;
-  chosen = IsPart-itself q;
-  order = rw (letters_standard q) (turned (standardised (letters_of q)) (letters_of q) (standardised_same_order (letters_of q)));
-  fit = cells_fit_back q (standardised (letters_of q)) (as_many q);
-})
-
-standard_is_held : (g q : List Point) → holds g (standard q) ≡ holds g q
-standard_is_held g q = same_test (holds g (standard q)) (holds g q) (λ e. holds_trans g (standard q) q e (standard_holds q)) (λ e. holds_trans g q (standard q) e (holds_standard q))
 
 -- ---- the point in c
 abbrev pub points_in_cell : Cell → List Point → ℕ
@@ -137,4 +90,4 @@ cleaned_is_held c g p x l k m = go (has_one_point_in c p) refl
     go false e = refl
     go true e =
         let w = one_tells c p ((Decides-eqb (points_in_cell c p) 1).0 e) in
-        standard_is_held g (outside c p) ∙ outside_is_held c g p x w.0 l w.1 k m
+        closed_up_is_held g (outside c p) ∙ outside_is_held c g p x w.0 l w.1 k m

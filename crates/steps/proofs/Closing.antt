@@ -7,9 +7,9 @@ use Rattle.patterns.specs.Parts.IsIn.{here, later}
 use Rattle.gridded.specs.declared.axis.Axis.{Axis}
 use Rattle.gridded.specs.declared.axis.Axis.TheVariants.{Column, Row}
 use Rattle.gridded.specs.declared.cell.Cell.{Cell}
-use Rattle.gridded.specs.Axes.{line_of, with_line}
+use Rattle.gridded.specs.Axes.{line_of, with_line, is_on}
 use Rattle.gridded.specs.Grids.{Point}
-use Rattle.steps.specs.Patterns.{is_on, in_moved_cells}
+use Rattle.gridded.specs.Moved.{move_cells}
 use Rattle.steps.specs.Steps.{closed_line, close_cell, close_up}
 use Rattle.steps.proofs.Moved.{KeepsOrder}
 
@@ -70,7 +70,7 @@ abbrev pub open_cell : Axis → ℕ → Cell → Cell
 open_cell a i c = with_line a (opened i (line_of a c)) c
 
 abbrev pub open_up : Axis → ℕ → List Point → List Point
-open_up a i g = in_moved_cells (open_cell a i) g
+open_up a i g = move_cells (open_cell a i) g
 
 pub close_open_cell : (a : Axis) (i : ℕ) (c : Cell) → close_cell a i (open_cell a i c) ≡ c
 close_open_cell Column i c = let e = closed_opened i c.x in λ j. record { x = e j; y = c.y }

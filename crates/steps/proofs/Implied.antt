@@ -15,7 +15,7 @@ use Rattle.gridded.specs.OrderLaws.{gridded_eq_decides, gridded_total, gridded_e
 use Rattle.sequences.proofs.InOrder.{in_order-is}
 use Rattle.steps.specs.Steps.{implies_list, is_implied, without_implied}
 use Rattle.steps.proofs.ListTests.{each_passes, all_pass, some_passes, which_passes}
-use Rattle.steps.proofs.Holding.{holds_trans, holds_itself, holds_each_other}
+use Rattle.gridded.proofs.Holding.{holds_trans, holds_itself, holds_each_other}
 use Rattle.steps.proofs.Minimal.{EachGridded}
 use Rattle.steps.proofs.Members.{meets_each}
 

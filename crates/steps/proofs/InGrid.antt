@@ -7,9 +7,9 @@ use Rattle.patterns.specs.Parts.{IsIn}
 use Rattle.patterns.specs.Parts.IsIn.{here, later}
 use Rattle.patterns.proofs.Lists.{from_IsIn-map}
 use Rattle.gridded.specs.Grids.{Point}
-use Rattle.tiling_core.specs.Tiles.{IsInGrid, fits_grid}
-use Rattle.tiling_core.specs.Patterns.{is_among}
-use Rattle.tiling_core.specs.Patterns.{minimal, holds_another}
+use Rattle.tiling_core.specs.Tiles.{IsInGrid}
+use Rattle.gridded.specs.Places.{fits_grid}
+use Rattle.tiling_core.specs.Patterns.{is_among, minimal, holds_another}
 use Rattle.steps.specs.Steps.{useful, tidied, is_implied}
 use Rattle.steps.proofs.ListTests.{at_each}
 use Rattle.steps.proofs.Tidied.{remaining, is_possible}

@@ -16,12 +16,14 @@ use Rattle.gridded.specs.declared.cell.Cell.{Cell}
 use Rattle.gridded.specs.Grids.{Point, same_cell, letter_of, holds, is_gridded, IsGridded, cells_in}
 use Rattle.gridded.specs.Orders.{cell_eq, gridded_eq}
 use Rattle.gridded.specs.OrderLaws.{cell_eq_decides, gridded_eq_decides}
-use Rattle.tiling_core.specs.Tiles.{Tiles, fits_grid, is_member}
-use Rattle.tiling_core.specs.Patterns.{point_at, rising, falling, forbids, active_cells}
-use Rattle.steps.specs.Patterns.{has_one_point_in, shares_line, requires_list}
+use Rattle.tiling_core.specs.Tiles.{Tiles, is_member}
+use Rattle.gridded.specs.Places.{fits_grid, has_one_point_in}
+use Rattle.gridded.specs.Small.{point_at, rising, falling}
+use Rattle.tiling_core.specs.Patterns.{forbids, active_cells, requires_list}
+use Rattle.gridded.specs.Axes.{shares_line}
 use Rattle.steps.specs.Steps.{is_isolated, is_other_list, cleaned, cleaned_list, clean}
 use Rattle.steps.proofs.ListTests.{each_passes, which_passes, list_all-agree, list_any-agree, list_any-map, some_passes}
-use Rattle.steps.proofs.Holding.{holds_from, same_cell_from, held_point, is_true}
+use Rattle.gridded.proofs.Holding.{holds_from, same_cell_from, held_point, is_true}
 use Rattle.steps.proofs.Minimal.{EachGridded}
 use Rattle.steps.proofs.Members.{holds_none_of, meets_each, is_member-tiling_of}
 use Rattle.steps.proofs.Lines.{holds_point, cell_is_in, cell_in_grid}

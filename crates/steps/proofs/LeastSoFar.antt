@@ -18,7 +18,7 @@ use Rattle.gridded.specs.Orders.{gridded_eq, gridded_cmp}
 use Rattle.tiling_core.specs.Tiles.{AreGridded}
 use Rattle.tiling_core.specs.Patterns.{holds_another}
 use Rattle.steps.proofs.ListTests.{at_each, some_passes, which_passes}
-use Rattle.steps.proofs.Holding.{holds_trans, holds_shorter}
+use Rattle.gridded.proofs.Holding.{holds_trans, holds_shorter}
 use Rattle.steps.proofs.Minimal.{EachGridded, other_is_shorter, shorter_and_held, holds_least}
 use Rattle.steps.proofs.Shorter.{as_long, in_all}
 

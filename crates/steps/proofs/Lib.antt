@@ -1,7 +1,5 @@
 pub mod StepRows
 pub mod ListTests
-pub mod Permutations
-pub mod Holding
 pub mod Minimal
 pub mod Shorter
 pub mod LeastSoFar

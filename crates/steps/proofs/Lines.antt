@@ -14,16 +14,17 @@ use Rattle.patterns.proofs.Occurrences.{match_tells}
 use Rattle.gridded.specs.declared.axis.Axis.{Axis}
 use Rattle.gridded.specs.declared.axis.Axis.TheVariants.{Column, Row}
 use Rattle.gridded.specs.declared.cell.Cell.{Cell}
-use Rattle.gridded.specs.Axes.{line_of, with_line}
+use Rattle.gridded.specs.Axes.{line_of, with_line, is_on}
 use Rattle.gridded.specs.Grids.{Point, holds, letter_of, cell_of, same_cell, cells_in}
 use Rattle.gridded.specs.Orders.{cells_of, gridded_eq}
 use Rattle.gridded.specs.OrderLaws.{gridded_eq_decides}
-use Rattle.tiling_core.specs.Tiles.{Tiles, fits_grid, is_member}
-use Rattle.tiling_core.specs.Patterns.{point_at, forbids, active_cells}
-use Rattle.steps.specs.Patterns.{touches, is_on}
+use Rattle.tiling_core.specs.Tiles.{Tiles, is_member}
+use Rattle.gridded.specs.Places.{fits_grid, touches}
+use Rattle.gridded.specs.Small.{point_at}
+use Rattle.tiling_core.specs.Patterns.{forbids, active_cells}
 use Rattle.steps.specs.Steps.{sides, misses, is_blank, close_cell, close_up, without_line}
 use Rattle.steps.proofs.ListTests.{each_passes, which_passes, none_passes, list_all-agree, list_any-agree, list_any-map}
-use Rattle.steps.proofs.Holding.{holds_from, same_cell_from, held_point}
+use Rattle.gridded.proofs.Holding.{holds_from, same_cell_from, held_point}
 use Rattle.steps.proofs.Members.{holds_none_of, meets_each, is_member-tiling_of}
 use Rattle.steps.proofs.Moved.{holds-moved}
 use Rattle.steps.proofs.Closing.{is_off_line, IsOff, closing_keeps, closed_below}

@@ -11,7 +11,8 @@ use Rattle.gridded.specs.Orders.{gridded_cmp}
 use Rattle.gridded.specs.OrderLaws.{gridded_total, gridded_exact, gridded_ties, gridded_eq_decides}
 use Rattle.sequences.specs.Ascending.{in_order, exact_sequences}
 use Rattle.sequences.proofs.InOrder.{list_all-in_order}
-use Rattle.tiling_core.specs.Tiles.{tiling_of, fits_grid, is_member}
+use Rattle.tiling_core.specs.Tiles.{tiling_of, is_member}
+use Rattle.gridded.specs.Places.{fits_grid}
 use Rattle.steps.proofs.ListTests.{list_any-not_all, list_all-agree}
 
 pub lists_exact : (a b : List (List Point)) → slice_cmp gridded_cmp a b ≡ Equal → a ≡ b

@@ -11,7 +11,7 @@ use Rattle.gridded.specs.Orders.{gridded_eq}
 use Rattle.gridded.specs.OrderLaws.{gridded_eq_decides}
 use Rattle.tiling_core.specs.Patterns.{holds_another, minimal}
 use Rattle.steps.proofs.ListTests.{some_passes, which_passes, none-not_any}
-use Rattle.steps.proofs.Holding.{holds_trans, holds_itself, holds_as_long}
+use Rattle.gridded.proofs.Holding.{holds_trans, holds_itself, holds_as_long}
 
 -- each pattern of a list is gridded
 abbrev pub EachGridded : List (List Point) → Type 0

@@ -12,7 +12,7 @@ use Rattle.patterns.proofs.Searches.{found_from_start}
 use Rattle.gridded.specs.declared.cell.Cell.{Cell}
 use Rattle.gridded.specs.Grids.{Point, same_cell, letter_of, may_follow, is_consistent, is_gridded, holds}
 use Rattle.gridded.specs.Orders.{letters_of}
-use Rattle.steps.specs.Patterns.{in_moved_cells}
+use Rattle.gridded.specs.Moved.{move_cells}
 
 pub eq_by_lt : (a b : ℕ) → (a == b) ≡ (not (nat_lt a b) && not (nat_lt b a))
 eq_by_lt a b = grind (arith, nat_tests)
@@ -53,11 +53,11 @@ module _ (f : Cell → Cell) (ok : Cell → Bool) (keeps : KeepsOrder f ok) wher
   consistent-moved [] k = refl
   consistent-moved (p ∷ g) k = rw (all_follow-moved p g (k p here) (λ r m. k r (later p m)), consistent-moved g (λ r m. k r (later p m)))
 
-  pub letters-moved : (g : List Point) → letters_of (in_moved_cells f g) ≡ letters_of g
+  pub letters-moved : (g : List Point) → letters_of (move_cells f g) ≡ letters_of g
   letters-moved [] = refl
   letters-moved (p ∷ g) = ap (λ ls. p.letter ∷ ls) (letters-moved g)
 
-  pub gridded-moved : (g : List Point) → AllOk g → is_gridded (in_moved_cells f g) ≡ is_gridded g
+  pub gridded-moved : (g : List Point) → AllOk g → is_gridded (move_cells f g) ≡ is_gridded g
   gridded-moved g k = rw (letters-moved g, consistent-moved g k)
 
   stands_as-moved : (x a : Point) (xs ys : List Point) → stands_as letter_of same_cell (moved x) (moved a) (map moved xs) (map moved ys) ≡ stands_as letter_of same_cell x a xs ys
@@ -75,6 +75,6 @@ module _ (f : Cell → Cell) (ok : Cell → Bool) (keeps : KeepsOrder f ok) wher
       rw (← map_push moved xs x, ← map_push moved ys b) first in
       rw (same_cell-moved x b (h x here) (k b here), stands_as-moved x b xs ys, one, is_found-moved xs ys w (b ∷ p) (λ r m. h r (later x m)) k)
 
-  pub holds-moved : (g p : List Point) → AllOk g → AllOk p → holds (in_moved_cells f g) (in_moved_cells f p) ≡ holds g p
+  pub holds-moved : (g p : List Point) → AllOk g → AllOk p → holds (move_cells f g) (move_cells f p) ≡ holds g p
   holds-moved g p h k =
       sym (found_from_start letter_of same_cell (map moved g) (map moved p)) ∙ is_found-moved [] [] g p h k ∙ found_from_start letter_of same_cell g p

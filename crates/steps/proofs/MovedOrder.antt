@@ -15,7 +15,8 @@ use Rattle.gridded.specs.declared.Cell.{Cell}
 use Rattle.gridded.specs.Grids.{Point, cell_of}
 use Rattle.gridded.specs.Orders.{cell_cmp, cell_eq, gridded_cmp, gridded_eq, cells_of}
 use Rattle.gridded.specs.OrderLaws.{gridded_ties}
-use Rattle.steps.specs.Patterns.{in_moved_cells, shares_line}
+use Rattle.gridded.specs.Moved.{move_cells}
+use Rattle.gridded.specs.Axes.{shares_line}
 use Rattle.steps.proofs.Moved.{KeepsOrder, AllOk, letters-moved, eq_by_lt}
 
 -- ---- lists that are mapped
@@ -68,21 +69,21 @@ module _ (f : Cell → Cell) (ok : Cell → Bool) (keeps : KeepsOrder f ok) wher
   pub shares_line-moved : (c d : Cell) → ok c ≡ true → ok d ≡ true → shares_line (f c) (f d) ≡ shares_line c d
   shares_line-moved c d h k = rw (column_eq-moved c d h k, row_eq-moved c d h k) refl
 
-  cells-moved : (g : List Point) → cells_of (in_moved_cells f g) ≡ map f (cells_of g)
+  cells-moved : (g : List Point) → cells_of (move_cells f g) ≡ map f (cells_of g)
   cells-moved [] = refl
   cells-moved (p ∷ g) = ap (λ (cells : List Cell). f p.cell ∷ cells) (cells-moved g)
 
   cell_ok : (g : List Point) → AllOk f ok keeps g → (c : Cell) → IsIn c (cells_of g) → ok c ≡ true
   cell_ok g h c m = let w = from_IsIn-map cell_of g m in rw w.2 (h w.0 w.1)
 
-  pub gridded_cmp-moved : (g h : List Point) → AllOk f ok keeps g → AllOk f ok keeps h → gridded_cmp (in_moved_cells f g) (in_moved_cells f h) ≡ gridded_cmp g h
+  pub gridded_cmp-moved : (g h : List Point) → AllOk f ok keeps g → AllOk f ok keeps h → gridded_cmp (move_cells f g) (move_cells f h) ≡ gridded_cmp g h
   gridded_cmp-moved g h j k =
       let cells = slice_cmp-map f cell_cmp cell_cmp (cells_of g) (cells_of h) (λ c d m n. cell_cmp-moved c d (cell_ok g j c m) (cell_ok h k d n)) in
       rw (as_long g, as_long h, letters-moved f ok keeps g, letters-moved f ok keeps h, cells-moved g, cells-moved h, cells) refl
     where
-      as_long : (p : List Point) → length (in_moved_cells f p) ≡ length p
+      as_long : (p : List Point) → length (move_cells f p) ≡ length p
       as_long [] = refl
       as_long (q ∷ p) = ap suc (as_long p)
 
-  pub gridded_eq-moved : (g h : List Point) → AllOk f ok keeps g → AllOk f ok keeps h → gridded_eq (in_moved_cells f g) (in_moved_cells f h) ≡ gridded_eq g h
-  gridded_eq-moved g h j k = gridded_ties (in_moved_cells f g) (in_moved_cells f h) ∙ ap is_eq (gridded_cmp-moved g h j k) ∙ sym (gridded_ties g h)
+  pub gridded_eq-moved : (g h : List Point) → AllOk f ok keeps g → AllOk f ok keeps h → gridded_eq (move_cells f g) (move_cells f h) ≡ gridded_eq g h
+  gridded_eq-moved g h j k = gridded_ties (move_cells f g) (move_cells f h) ∙ ap is_eq (gridded_cmp-moved g h j k) ∙ sym (gridded_ties g h)

@@ -1,7 +1,7 @@
 -- The cells of a line, and patterns that a line leaves.
 use Rattle.std.proofs.Common.{◌≡◌, ◌<◌, ◌≤◌, ◌-◌, ◌+◌, ℕ, Bool, true, false, List, [], ◌∷◌, length, get_or, take, set, refl, sym, ap, ◌∙◌, arith, subst}
 use Rattle.std.specs.Prelude.{not, map, nat_lt, All, IsTrue}
-use Rattle.std.specs.List.{filter, list_any, list_all}
+use Rattle.std.specs.List.{filter, list_any, list_all, range_with_len}
 use Rattle.std.proofs.lemmas.Bool.Decides.{nat_tests, Decides-eqb}
 use Rattle.std.proofs.lemmas.List.{length-map, take_more_set, map_more, take_all}
 use Rattle.patterns.specs.Parts.{IsIn}
@@ -10,19 +10,20 @@ use Rattle.patterns.specs.Words.{has_no_repeats}
 use Rattle.patterns.proofs.Booleans.{and_true, both_true, not_true, not_false}
 use Rattle.patterns.proofs.Lists.{from_IsIn-map, IsIn-filter, from_IsIn-filter}
 use Rattle.patterns.proofs.NoRepeat.{from_IsIn-flat_map, IsIn-range_with_len}
-use Rattle.std.specs.List.{range_with_len}
 use Rattle.gridded.specs.declared.axis.Axis.{Axis}
 use Rattle.gridded.specs.declared.axis.Axis.TheVariants.{Column, Row}
 use Rattle.gridded.specs.declared.cell.Cell.{Cell}
-use Rattle.gridded.specs.Axes.{line_of, across, with_line}
+use Rattle.gridded.specs.Axes.{line_of, across, with_line, is_on, cell_on}
 use Rattle.gridded.specs.Grids.{Point, points, cells_in, cell_of, is_gridded, is_consistent, IsGridded, FitTogether}
 use Rattle.gridded.specs.Orders.{letters_of, cells_of}
-use Rattle.tiling_core.specs.Tiles.{Tiles, IsTiling, IsInGrid, fits_grid}
-use Rattle.tiling_core.specs.Patterns.{point_at, forbids, active_cells}
-use Rattle.steps.specs.Patterns.{is_on, cell_on, in_moved_cells}
+use Rattle.tiling_core.specs.Tiles.{Tiles, IsTiling, IsInGrid}
+use Rattle.gridded.specs.Places.{fits_grid}
+use Rattle.gridded.specs.Small.{point_at}
+use Rattle.tiling_core.specs.Patterns.{forbids, active_cells}
+use Rattle.gridded.specs.Moved.{move_cells}
 use Rattle.steps.specs.Steps.{sides, misses, is_blank, close_cell, close_up}
 use Rattle.steps.proofs.ListTests.{each_passes, some_passes, which_passes, at_each}
-use Rattle.steps.proofs.Holding.{is_true}
+use Rattle.gridded.proofs.Holding.{is_true}
 use Rattle.steps.proofs.Lines.{cell_is_in, off_line, fits_closed, blank_tells}
 use Rattle.steps.proofs.Closing.{is_off_line, closing_keeps}
 use Rattle.steps.proofs.Moved.{gridded-moved}
@@ -76,11 +77,11 @@ one_active a i t k b l e =
 pub ruleset on_line = (all_forbidden, one_active)
 
 -- ---- closing up
-points_moved : (f : Cell → Cell) (g : List Point) → points (letters_of g) (map f (cells_of g)) ≡ in_moved_cells f g
+points_moved : (f : Cell → Cell) (g : List Point) → points (letters_of g) (map f (cells_of g)) ≡ move_cells f g
 points_moved f [] = refl
 points_moved f (p ∷ g) = ap (λ rest. record { letter = p.letter; cell = f p.cell } ∷ rest) (points_moved f g)
 
-letters_under : (n : ℕ) (f : Cell → Cell) (g : List Point) → ((p : Point) → IsIn p g → p.letter < n) → (p : Point) → IsIn p (in_moved_cells f g) → p.letter < n
+letters_under : (n : ℕ) (f : Cell → Cell) (g : List Point) → ((p : Point) → IsIn p g → p.letter < n) → (p : Point) → IsIn p (move_cells f g) → p.letter < n
 letters_under n f [] k p m = elim m [ ]
 letters_under n f (q ∷ g) k _ here = k q here
 letters_under n f (q ∷ g) k p (later _ m) = letters_under n f g (λ r i. k r (later q i)) p m
@@ -89,9 +90,9 @@ truth : (b : Bool) → b ≡ true → IsTrue b
 truth true e = refl
 truth false e = e
 
-moved_is_gridded : (f : Cell → Cell) (g : List Point) → IsGridded g → is_gridded (in_moved_cells f g) ≡ true → IsGridded (in_moved_cells f g)
+moved_is_gridded : (f : Cell → Cell) (g : List Point) → IsGridded g → is_gridded (move_cells f g) ≡ true → IsGridded (move_cells f g)
 moved_is_gridded f g k e =
-    let m = in_moved_cells f g in
+    let m = move_cells f g in
     let n : length m ≡ length g = length-map g (λ p. record { letter = p.letter; cell = f p.cell }) in
     let a = and_true (has_no_repeats (letters_of m)) (is_consistent m) e in
     record {

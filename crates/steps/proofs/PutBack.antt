@@ -16,7 +16,8 @@ use Rattle.gridded.specs.Grids.{Point, same_cell, letter_of, may_follow, is_cons
 use Rattle.gridded.specs.Orders.{cell_eq, letters_of}
 use Rattle.gridded.specs.OrderLaws.{cell_eq_decides}
 use Rattle.steps.proofs.ListTests.{each_passes, none_passes}
-use Rattle.steps.proofs.Holding.{same_cell_tells, same_cell_from, in_whole}
+use Rattle.gridded.proofs.Holding.{same_cell_tells, same_cell_from}
+use Rattle.patterns.proofs.PartLaws.{IsIn-IsPart}
 
 -- ---- the points of a gridded permutation
 pub record Follows (x y : Point) : Type 0 where
@@ -168,7 +169,7 @@ module _ (c : Cell) where
   both_first g p s x a ex off ea other h k m e =
       let u = gridded_tells x g k in
       let v = gridded_tells a p m in
-      let st = stand_all x a s p ex ea e (λ y i. let j = in_whole h i in (u.1 y j, off y j)) (λ b i. v.1 b i) in
+      let st = stand_all x a s p ex ea e (λ y i. let j = IsIn-IsPart h i in (u.1 y j, off y j)) (λ b i. v.1 b i) in
       record {
         points = x ∷ s;
         chosen = kept x h;
@@ -207,7 +208,7 @@ module _ (c : Cell) where
   put_back (_ ∷ g) (b ∷ p) s x a (lone_first ex off) (only_next _ nb o) (left_out _ h) k m e =
       let all : outside (b ∷ p) ≡ b ∷ outside p = rw nb in
       let y = match_of_first s (outside p) b (rw all at e) in
-      let i = in_whole h y.1 in
+      let i = IsIn-IsPart h y.1 in
       let u = columns_tell x y.0 ((gridded_tells x g k).1 y.0 i) in
       let w = only_is_in o in
       let v = columns_tell b a ((gridded_tells b p m).1 a w.0) in

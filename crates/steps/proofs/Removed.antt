@@ -11,12 +11,12 @@ use Rattle.gridded.specs.declared.cell.Cell.{Cell}
 use Rattle.gridded.specs.Grids.{Point, cell_of}
 use Rattle.gridded.specs.Orders.{cell_eq, cells_of, letters_of}
 use Rattle.gridded.specs.Parts.{without_point, restricted}
-use Rattle.gridded.specs.PointLaws.{cells_of-points}
-use Rattle.tiling_core.specs.Tiles.{IsInGrid, fits_grid}
-use Rattle.steps.specs.Patterns.{has_one_point_in}
+use Rattle.gridded.proofs.ClosedUp.{cells_of-closed_up}
+use Rattle.tiling_core.specs.Tiles.{IsInGrid}
+use Rattle.gridded.specs.Places.{fits_grid, has_one_point_in}
 use Rattle.steps.specs.Steps.{cleaned, cleaned_list, is_other_list}
 use Rattle.steps.proofs.ListTests.{each_passes, all_pass, at_each}
-use Rattle.steps.proofs.Cleaned.{count-cons, points_in_cell, none_in_cell, as_many}
+use Rattle.steps.proofs.Cleaned.{count-cons, points_in_cell, none_in_cell}
 use Rattle.steps.proofs.PutBack.{outside-all}
 use Rattle.steps.proofs.InGrid.{all_in}
 
@@ -65,7 +65,7 @@ pub ruleset removing = (point_removed, none_removed, no_point)
 restricted_in : (w h : ℕ) (test : Cell → Bool) (g : List Point) → fits_grid w h g ≡ true → fits_grid w h (restricted test g) ≡ true
 restricted_in w h test g e =
     let part = filter (λ p. test p.cell) g in
-    rw (cells_of-points (standardised (letters_of part)) (cells_of part) (as_many part ∙ sym (length-map part cell_of)))
+    rw (cells_of-closed_up part)
     (all_pass (λ (c : Cell). nat_lt c.x w && nat_lt c.y h) (cells_of part) (λ c m. inside c (from_IsIn-map cell_of part m)))
   where
     inside : (c : Cell) → (p : Point) × IsIn p (filter (λ p. test p.cell) g) × (c ≡ cell_of p) → (nat_lt c.x w && nat_lt c.y h) ≡ true

@@ -16,16 +16,18 @@ use Rattle.gridded.specs.declared.cell.Cell.{Cell}
 use Rattle.gridded.specs.Grids.{Point, holds, is_gridded, is_consistent, cell_of, IsGridded}
 use Rattle.gridded.specs.Laws.{IsGriddedOf, IsCellOf}
 use Rattle.gridded.specs.Orders.{letters_of, cells_of, gridded_cmp}
-use Rattle.tiling_core.specs.Tiles.{Tiles, IsTiling, AreGridded, fits_grid, is_member}
+use Rattle.tiling_core.specs.Tiles.{Tiles, IsTiling, AreGridded, is_member}
+use Rattle.gridded.specs.Places.{fits_grid}
 use Rattle.tiling_core.specs.Members.{Member, HoldsOneOf}
 use Rattle.tiling_core.specs.Carried.{MemberOf, IsRenaming, RenamingKeepsCounts}
 use Rattle.tiling_core.specs.Patterns.{forbids, minimal}
-use Rattle.steps.specs.Patterns.{in_moved_cells}
-use Rattle.steps.specs.Steps.{step_applies, step_result, void_tiling, is_nil, is_hopeless, is_isolated, can_be_cleaned, clean, tidy_lists, tidied, is_blank, without_line, close_cell, close_up}
+use Rattle.gridded.specs.Moved.{move_cells}
+use Rattle.steps.specs.Steps.{step_applies, step_result, is_nil, is_hopeless, is_isolated, can_be_cleaned, clean, tidy_lists, tidied, is_blank, without_line, close_cell, close_up}
+use Rattle.tiling_core.specs.Roots.{void_tiling}
 use Rattle.steps.specs.Kept.{KeepsMembers, StepsKeepMembers}
 use Rattle.steps.specs.declared.step.Step.TheVariants.{Min, Clean, Lists, Column, Row, Void}
 use Rattle.steps.proofs.ListTests.{each_passes, all_pass, which_passes, some_passes, at_each}
-use Rattle.steps.proofs.Holding.{holds_tells, holds_from, holds_empty}
+use Rattle.gridded.proofs.Holding.{holds_tells, holds_from, holds_empty}
 use Rattle.steps.proofs.Minimal.{holds_none_minimal}
 use Rattle.steps.proofs.Members.{holds_none_of, meets_each, is_member-tiling_of}
 use Rattle.steps.proofs.Tidied.{meets_tidied}
@@ -155,16 +157,16 @@ in_cells : (w h : ℕ) (g : List Point) → ((p : Point) → IsIn p g → IsCell
 in_cells w h [] f = tt
 in_cells w h (p ∷ g) f = (f p here, in_cells w h g (λ q m. f q (later p m)))
 
-letters_of-moved : (f : Cell → Cell) (g : List Point) → letters_of (in_moved_cells f g) ≡ letters_of g
+letters_of-moved : (f : Cell → Cell) (g : List Point) → letters_of (move_cells f g) ≡ letters_of g
 letters_of-moved f [] = refl
 letters_of-moved f (p ∷ g) = ap (λ ls. p.letter ∷ ls) (letters_of-moved f g)
 
-moved_long : (f : Cell → Cell) (g : List Point) → length (in_moved_cells f g) ≡ length g
+moved_long : (f : Cell → Cell) (g : List Point) → length (move_cells f g) ≡ length g
 moved_long f g = length-map g (λ p. record { letter = p.letter; cell = f p.cell })
 
-moved_gridded : (f : Cell → Cell) (g : List Point) (w h w' h' n : ℕ) → IsGriddedOf w h n g → is_gridded (in_moved_cells f g) ≡ true → ((p : Point) → IsIn p (in_moved_cells f g) → (p.cell.x < w') × (p.cell.y < h')) → IsGriddedOf w' h' n (in_moved_cells f g)
+moved_gridded : (f : Cell → Cell) (g : List Point) (w h w' h' n : ℕ) → IsGriddedOf w h n g → is_gridded (move_cells f g) ≡ true → ((p : Point) → IsIn p (move_cells f g) → (p.cell.x < w') × (p.cell.y < h')) → IsGriddedOf w' h' n (move_cells f g)
 moved_gridded f g w h w' h' n k e inside =
-    let m = in_moved_cells f g in
+    let m = move_cells f g in
     let a = and_true (has_no_repeats (letters_of m)) (is_consistent m) e in
     record { as_long = moved_long f g ∙ k.as_long; below = rw (letters_of-moved f g) k.below; in_grid = in_cells w' h' m inside; distinct = a.0; consistent = a.1 }
 

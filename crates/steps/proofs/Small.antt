@@ -8,7 +8,7 @@ use Rattle.gridded.specs.Grids.{Point}
 use Rattle.gridded.specs.Orders.{gridded_eq}
 use Rattle.tiling_core.specs.Tiles.{Tiles}
 use Rattle.tiling_core.specs.Same.{tiles_eq}
-use Rattle.steps.specs.Steps.{void_tiling}
+use Rattle.tiling_core.specs.Roots.{void_tiling}
 
 above_zero : (n : ℕ) → (suc n == 0) ≡ false
 above_zero n = grind (arith, nat_tests)

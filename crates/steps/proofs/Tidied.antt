@@ -12,11 +12,10 @@ use Rattle.patterns.specs.Parts.{IsIn}
 use Rattle.gridded.specs.Grids.{Point, holds}
 use Rattle.gridded.specs.Orders.{gridded_eq, gridded_cmp}
 use Rattle.gridded.specs.OrderLaws.{gridded_eq_decides}
-use Rattle.tiling_core.specs.Patterns.{is_among}
-use Rattle.tiling_core.specs.Patterns.{holds_another}
+use Rattle.tiling_core.specs.Patterns.{is_among, holds_another}
 use Rattle.steps.specs.Steps.{useful, tidied}
 use Rattle.steps.proofs.ListTests.{each_passes, all_pass, some_passes, which_passes, list_all-agree}
-use Rattle.steps.proofs.Holding.{holds_trans, holds_empty}
+use Rattle.gridded.proofs.Holding.{holds_trans, holds_empty}
 use Rattle.steps.proofs.Minimal.{EachGridded, holds_one_minimal, minimal_apart}
 use Rattle.steps.proofs.Members.{meets_each, holds_none_of}
 use Rattle.steps.proofs.Implied.{IsTidyList, meets_unimplied}

@@ -5,22 +5,21 @@ use Rattle.std.specs.Cmp.Lexicographic.{pointwise}
 use Rattle.gridded.specs.declared.axis.Axis.{Axis}
 use Rattle.gridded.specs.declared.axis.Axis.TheVariants as axis
 use Rattle.gridded.specs.declared.cell.Cell.{Cell}
-use Rattle.gridded.specs.Axes.{line_of, with_line}
+use Rattle.gridded.specs.Axes.{line_of, with_line, is_on, shares_line}
 use Rattle.gridded.specs.Grids.{Point, holds}
 use Rattle.gridded.specs.Orders.{cell_eq, gridded_eq}
 use Rattle.tiling_core.specs.Tiles.{Tiles, tiling_of}
 use Rattle.tiling_core.specs.Same.{tiles_eq}
+use Rattle.tiling_core.specs.Roots.{void_tiling}
 use Rattle.steps.specs.declared.step.Step.{Step}
 use Rattle.steps.specs.declared.step.Step.TheVariants.{Min, Clean, Lists, Column, Row, Void}
-use Rattle.tiling_core.specs.Patterns.{point_at, rising, falling, is_among, forbids, active_cells, holds_another, minimal}
+use Rattle.gridded.specs.Small.{point_at, rising, falling}
+use Rattle.tiling_core.specs.Patterns.{is_among, forbids, active_cells, holds_another, minimal, requires_list}
 use Rattle.gridded.specs.Parts.{restricted}
-use Rattle.steps.specs.Patterns.{touches, is_on, shares_line, has_one_point_in, in_moved_cells, requires_list}
+use Rattle.gridded.specs.Places.{touches, has_one_point_in}
+use Rattle.gridded.specs.Moved.{move_cells}
 
 -- ---- Void
--- the tiling with no member
-abbrev pub void_tiling : Tiles
-void_tiling = tiling_of 0 0 ([] ∷ []) []
-
 abbrev pub is_nil : {X : Type 0} → List X → Bool
 is_nil xs = length xs == 0
 
@@ -110,7 +109,7 @@ abbrev pub close_cell : Axis → ℕ → Cell → Cell
 close_cell a i c = with_line a (closed_line i (line_of a c)) c
 
 abbrev pub close_up : Axis → ℕ → List Point → List Point
-close_up a i g = in_moved_cells (close_cell a i) g
+close_up a i g = move_cells (close_cell a i) g
 
 abbrev pub without_line : Axis → ℕ → Tiles → Tiles
 without_line a i t =

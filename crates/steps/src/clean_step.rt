@@ -2,10 +2,11 @@
 ghost use Rattle.std.specs.Prelude.{◌≡◌, ◌∷◌, [], ◌&&◌, ◌<◌, not, IfOk, map};
 ghost use Rattle.std.specs.List.{list_any};
 ghost use Rattle.std.specs.Cmp.Lexicographic.{pointwise};
-ghost use Rattle.gridded.specs.Axes.{line_of};
+ghost use Rattle.gridded.specs.Axes.{line_of, is_on};
 ghost use Rattle.gridded.specs.Orders.{gridded_eq, cell_eq};
-ghost use Rattle.tiling_core.specs.Patterns.{point_at, forbids, active_cells};
-ghost use Rattle.steps.specs.Patterns.{is_on, has_one_point_in, requires_list};
+ghost use Rattle.gridded.specs.Small.{point_at};
+ghost use Rattle.tiling_core.specs.Patterns.{forbids, active_cells, requires_list};
+ghost use Rattle.gridded.specs.Places.{has_one_point_in};
 ghost use Rattle.steps.specs.Steps.{is_isolated, is_other_list, can_be_cleaned, cleaned, cleaned_list, clean};
 
 use crate::pattern::{cell_on, cells_across, falling, forbids, point_at, rising, sides};

@@ -1,9 +1,8 @@
 // Columns and rows without points.
 ghost use Rattle.std.specs.Prelude.{◌≡◌, ◌<◌, ◌≤◌, ◌==◌, ◌||◌, not, true, IfOk, length, map};
 ghost use Rattle.std.specs.List.{filter, list_any, list_all};
-ghost use Rattle.gridded.specs.Axes.{line_of};
+ghost use Rattle.gridded.specs.Axes.{line_of, is_on};
 ghost use Rattle.tiling_core.specs.Patterns.{active_cells};
-ghost use Rattle.steps.specs.Patterns.{is_on};
 ghost use Rattle.steps.specs.Steps.{sides, misses, is_blank, closed_line, close_cell, close_up, without_line};
 
 use crate::pattern::{cell_on, cells_across, forbids, misses, point_at, sides};

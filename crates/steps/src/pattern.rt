@@ -2,8 +2,10 @@
 ghost use Rattle.std.specs.Prelude.{◌≡◌, ◌≤◌};
 ghost use Rattle.std.specs.List.{list_any};
 ghost use Rattle.gridded.specs.Grids.{holds};
-ghost use Rattle.tiling_core.specs.Patterns.{point_at, rising, falling, forbids};
-ghost use Rattle.steps.specs.Patterns.{is_on, touches, cell_on};
+ghost use Rattle.gridded.specs.Small.{point_at, rising, falling};
+ghost use Rattle.tiling_core.specs.Patterns.{forbids};
+ghost use Rattle.gridded.specs.Axes.{is_on, cell_on};
+ghost use Rattle.gridded.specs.Places.{touches};
 ghost use Rattle.gridded.specs.Axes.{line_of, across};
 ghost use Rattle.tiling_core.specs.Tiles.{IsTiling};
 ghost use Rattle.steps.specs.Steps.{misses, sides};

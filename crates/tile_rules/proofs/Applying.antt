@@ -6,7 +6,8 @@ use Rattle.std.proofs.lemmas.List.Elements.{All-from_recursion}
 use Rattle.patterns.proofs.Booleans.{and_true}
 use Rattle.gridded.specs.Grids.{Point}
 use Rattle.tiling_core.specs.Measures.{weight}
-use Rattle.tiling_core.specs.Tiles.{Tiles, IsInGrid, fits_grid}
+use Rattle.tiling_core.specs.Tiles.{Tiles, IsInGrid}
+use Rattle.gridded.specs.Places.{fits_grid}
 use Rattle.steps.specs.Steps.{is_nil}
 use Rattle.rule_kinds.specs.Conditions.{ascends, is_inferable}
 use Rattle.rule_kinds.specs.Lines.{in_grid}

@@ -6,7 +6,8 @@ use Rattle.std.proofs.lemmas.Slice.Zip.{length-zip}
 use Rattle.tiling_core.specs.Tiles.{Tiles, IsTiling}
 use Rattle.steps.specs.declared.step.Step.{Step}
 use Rattle.steps.specs.declared.step.Step.TheVariants.{Void}
-use Rattle.steps.specs.Steps.{void_tiling, step_applies, step_result}
+use Rattle.tiling_core.specs.Roots.{void_tiling}
+use Rattle.steps.specs.Steps.{step_applies, step_result}
 use Rattle.steps.specs.Traces.{replay}
 use Rattle.rule_kinds.specs.Replayed.{AreReplays}
 use Rattle.rule_kinds.specs.Rules.{TilingRule}

@@ -10,7 +10,8 @@ use Rattle.patterns.specs.Laws.{IsPermutationOf}
 use Rattle.gridded.specs.declared.cell.Cell.{Cell}
 use Rattle.gridded.specs.Grids.{Point, points, FitTogether, IsGridded, is_consistent, may_follow}
 use Rattle.gridded.specs.Orders.{letters_of}
-use Rattle.tiling_core.specs.Tiles.{IsInGrid, fits_grid}
+use Rattle.tiling_core.specs.Tiles.{IsInGrid}
+use Rattle.gridded.specs.Places.{fits_grid}
 use Rattle.tiling_core.specs.Roots.{in_one_cell, only_cell}
 
 abbrev pub nine_corners : List Cell

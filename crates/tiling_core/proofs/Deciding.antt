@@ -7,10 +7,11 @@ use Rattle.patterns.specs.Parts.{IsIn}
 use Rattle.patterns.specs.Parts.IsIn.{here, later}
 use Rattle.patterns.proofs.Booleans.{and_true, both_true, or_all, not_false}
 use Rattle.patterns.proofs.Lists.{IsIn-map, from_IsIn-map}
-use Rattle.patterns.proofs.Occurrences.{occurs_decides}
 use Rattle.gridded.specs.declared.cell.Cell.{Cell}
-use Rattle.gridded.specs.Grids.{Point, holds, Holds, letter_of, cell_of, same_cell}
-use Rattle.tiling_core.specs.Tiles.{Tiles, fits_grid, is_member}
+use Rattle.gridded.specs.Grids.{Point, holds, Holds, cell_of}
+use Rattle.tiling_core.specs.Tiles.{Tiles, is_member}
+use Rattle.gridded.specs.Places.{fits_grid}
+use Rattle.gridded.proofs.Holding.{holds_decides}
 use Rattle.tiling_core.specs.Members.{Member, HoldsOneOf}
 use Rattle.tiling_core.specs.Measures.{Positive, is_empty, is_positive}
 
@@ -53,9 +54,6 @@ fits_grid_decides w h g = (
 
     lower_is : (a b : ℕ) → a < b → nat_lt a b ≡ true
     lower_is a b l = grind (arith, nat_tests)
-
-pub holds_decides : (g p : List Point) → Decides (holds g p) (Holds g p)
-holds_decides g p = occurs_decides letter_of same_cell g p
 
 pub not_held : (b : Bool) → not b ≡ true → b ≡ true → ⊥
 not_held true e f = cc

@@ -20,8 +20,10 @@ use Rattle.gridded.specs.OrderLaws.{cell_eq_decides, gridded_eq_decides}
 use Rattle.gridded.specs.CellSets.{cells_that, is_among as has_cell, IsCellSet, with_cell, bit_of}
 use Rattle.gridded.proofs.CellSets.{agree_on_cells, is_among-cells_that, IsCellSet-cells_that}
 use Rattle.gridded.proofs.GriddedLists.{IsIn-cells_in, from_IsIn-cells_in}
-use Rattle.tiling_core.specs.Tiles.{Tiles, IsInGrid, fits_grid}
-use Rattle.tiling_core.specs.Patterns.{point_at, is_among, forbids, active_cells, is_free, IsActive}
+use Rattle.tiling_core.specs.Tiles.{Tiles, IsInGrid}
+use Rattle.gridded.specs.Places.{fits_grid}
+use Rattle.gridded.specs.Small.{point_at}
+use Rattle.tiling_core.specs.Patterns.{is_among, forbids, active_cells, is_free, IsActive}
 use Rattle.tiling_core.proofs.Deciding.{one_passes, some_passes, fits_grid_decides, not_held, false_from}
 
 -- ---- sets of cells

@@ -11,7 +11,8 @@ use Rattle.gridded.specs.Orders.{gridded_cmp}
 use Rattle.gridded.specs.OrderLaws.{gridded_total, gridded_exact, gridded_ties, gridded_eq_decides}
 use Rattle.sequences.specs.Ascending.{in_order, exact_sequences}
 use Rattle.sequences.proofs.InOrder.{All-in_order, in_order_ascends}
-use Rattle.tiling_core.specs.Tiles.{AreGridded, IsInGrid, IsKept, IsTiling, fits_grid}
+use Rattle.tiling_core.specs.Tiles.{AreGridded, IsInGrid, IsKept, IsTiling}
+use Rattle.gridded.specs.Places.{fits_grid}
 
 pub IsInGrid-in_order : (w h : ℕ) (patterns : List (List Point)) → IsInGrid w h patterns → IsInGrid w h (in_order gridded_cmp patterns)
 IsInGrid-in_order w h patterns k = All-in_order gridded_cmp gridded_total gridded_exact (λ g. fits_grid w h g ≡ true) patterns k

@@ -5,7 +5,6 @@ pub mod Counted
 pub mod Ordered
 pub mod Roots
 pub mod Single
-pub mod SameOrder
 pub mod Minimal
 pub mod GridCells
 pub mod Further

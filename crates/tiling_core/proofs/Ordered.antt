@@ -14,7 +14,8 @@ use Rattle.gridded.specs.Orders.{gridded_cmp}
 use Rattle.gridded.specs.OrderLaws.{gridded_total, gridded_exact}
 use Rattle.sequences.specs.Ascending.{in_order}
 use Rattle.sequences.proofs.InOrder.{list_all-in_order}
-use Rattle.tiling_core.specs.Tiles.{Tiles, fits_grid, tiling_of, is_member}
+use Rattle.tiling_core.specs.Tiles.{Tiles, tiling_of, is_member}
+use Rattle.gridded.specs.Places.{fits_grid}
 use Rattle.tiling_core.specs.Patterns.{also}
 use Rattle.tiling_core.specs.Counts.{InsertionAddsUp}
 use Rattle.tiling_core.proofs.Kept.{lists_exact}

@@ -16,7 +16,8 @@ use Rattle.patterns.proofs.Searches.{found_from_start}
 use Rattle.gridded.specs.Grids.{Point, letter_of, same_cell, holds, may_follow, is_consistent}
 use Rattle.gridded.specs.Orders.{letters_of, cells_of}
 use Rattle.gridded.specs.Laws.{IsCellOf, IsGriddedOf}
-use Rattle.tiling_core.specs.Tiles.{fits_grid, is_member}
+use Rattle.gridded.specs.Places.{fits_grid}
+use Rattle.tiling_core.specs.Tiles.{is_member}
 use Rattle.tiling_core.specs.Carried.{MemberOf}
 use Rattle.tiling_core.specs.Roots.{in_one_cell, only_cell, root_of}
 use Rattle.tiling_core.specs.Counts.{RootCountsAvoiders}

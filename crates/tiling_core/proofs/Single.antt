@@ -1,5 +1,5 @@
 -- The tilings with one member or none.
-use Rattle.std.proofs.Common.{◌≡◌, ◌<◌, ◌≤◌, ℕ, zero, suc, Bool, true, false, List, [], ◌∷◌, length, refl, sym, ◌∙◌, arith, inl, inr, ⊎_elim}
+use Rattle.std.proofs.Common.{◌≡◌, ◌<◌, ◌≤◌, ℕ, zero, suc, Bool, true, false, List, [], ◌∷◌, length, refl, sym, ◌∙◌, subst, arith, inl, inr, ⊎_elim}
 use Rattle.std.specs.Prelude.{◌||◌, ◌⊎◌, not, map, nat_lt, ◌==◌}
 use Rattle.std.specs.List.{list_any}
 use Rattle.std.proofs.lemmas.Bool.Decides.{nat_tests, Decides-eqb}
@@ -9,11 +9,14 @@ use Rattle.patterns.specs.Parts.IsPart.{none, kept, left_out}
 use Rattle.patterns.specs.Words.{has_no_repeats}
 use Rattle.patterns.specs.Occurs.{occurs, is_match}
 use Rattle.patterns.proofs.Booleans.{and_true, both_true}
-use Rattle.patterns.proofs.Occurrences.{match_tells, alike_from}
+use Rattle.patterns.proofs.PartLaws.{IsPart-nothing}
+use Rattle.gridded.specs.declared.cell.Cell.{Cell}
+use Rattle.gridded.proofs.Holding.{Holds-empty}
+use Rattle.gridded.proofs.Pairs.{rising_held, falling_held}
 use Rattle.gridded.specs.Grids.{Point, Holds, letter_of, same_cell}
 use Rattle.tiling_core.specs.Tiles.{Tiles, count}
 use Rattle.tiling_core.specs.Carried.{MemberOf}
-use Rattle.tiling_core.specs.Patterns.{rising, falling}
+use Rattle.gridded.specs.Small.{rising, falling}
 use Rattle.tiling_core.specs.Roots.{only_cell, unit_tiling, point_tiling, void_tiling, one_at}
 use Rattle.tiling_core.specs.Counts.{UnitHasOneMember, PointHasOneMember, VoidHasNoMember}
 use Rattle.tiling_core.proofs.Listed.{members, listed_is_member}
@@ -25,16 +28,8 @@ empty_list (x ∷ xs) f = absurd (f x here)
 pub count_without_members : (t : Tiles) (n : ℕ) → ((g : List Point) → ¬ (MemberOf t n g)) → count t n ≡ 0
 count_without_members t n f = empty_list (members t n) (λ g m. f g (listed_is_member t n g m))
 
-nothing_kept : (g : List Point) → IsPart [] g
-nothing_kept [] = none
-nothing_kept (p ∷ g) = left_out p (nothing_kept g)
-
--- each gridded permutation holds the empty pattern
-pub holds_empty : (g : List Point) → Holds g []
-holds_empty g = let m = match_tells letter_of same_cell [] [] refl in record { points = []; chosen = nothing_kept g; order = m.order; fit = m.fit }
-
 pub void_has_no_member : VoidHasNoMember
-void_has_no_member n = count_without_members void_tiling n (λ g k. k.member.no_obstruction [] here (holds_empty g))
+void_has_no_member n = count_without_members void_tiling n (λ g k. k.member.no_obstruction [] here (Holds-empty g))
 
 no_point : (g : List Point) (n : ℕ) → ¬ (MemberOf unit_tiling (suc n) g)
 no_point [] n k = let e : 0 ≡ suc n = k.gridded.as_long in absurd (omega arith)
@@ -46,26 +41,19 @@ unit_has_one_member (suc n) =
     let none_there : one_at 0 (suc n) ≡ 0 = grind (arith, nat_tests) in
     count_without_members unit_tiling (suc n) (λ g. no_point g n) ∙ sym none_there
 
--- ---- two points of the one cell rise or fall
-abbrev InOneCell : Point → Type 0
-InOneCell p = same_cell p (record { letter = 0; cell = only_cell }) ≡ true
+-- ---- the point tiling
+first_two : (p q : Point) (g : List Point) → IsPart (p ∷ q ∷ []) (p ∷ q ∷ g)
+first_two p q g = kept p (kept q (IsPart-nothing g))
 
-two_rise : (p q : Point) (g : List Point) → InOneCell p → InOneCell q → p.letter < q.letter → Holds (p ∷ q ∷ g) (rising only_cell only_cell)
-two_rise p q g e f l =
-    let alike = alike_from p.letter 0 q.letter 1 (((λ h. omega arith), (λ h. l)), ((λ h. absurd (omega arith)), (λ h. absurd (omega arith)))) in
-    let matched : is_match letter_of same_cell (p ∷ q ∷ []) (rising only_cell only_cell) ≡ true = both_true _ _ e (both_true _ _ (both_true _ true alike refl) (both_true _ true f refl)) in
-    let m = match_tells letter_of same_cell (p ∷ q ∷ []) (rising only_cell only_cell) matched in
-    record { points = p ∷ q ∷ []; chosen = kept p (kept q (nothing_kept g)); order = m.order; fit = m.fit }
+-- two points of the one cell hold the rising or the falling pair
+two_rise : (p q : Point) (g : List Point) → p.cell ≡ only_cell → q.cell ≡ only_cell → p.letter < q.letter → Holds (p ∷ q ∷ g) (rising only_cell only_cell)
+two_rise p q g e f l = subst (λ (c : Cell). Holds (p ∷ q ∷ g) (rising c only_cell)) e (subst (λ (c : Cell). Holds (p ∷ q ∷ g) (rising p.cell c)) f (rising_held (first_two p q g) l))
 
-two_fall : (p q : Point) (g : List Point) → InOneCell p → InOneCell q → q.letter < p.letter → Holds (p ∷ q ∷ g) (falling only_cell only_cell)
-two_fall p q g e f l =
-    let alike = alike_from p.letter 1 q.letter 0 (((λ h. absurd (omega arith)), (λ h. absurd (omega arith))), ((λ h. omega arith), (λ h. l))) in
-    let matched : is_match letter_of same_cell (p ∷ q ∷ []) (falling only_cell only_cell) ≡ true = both_true _ _ e (both_true _ _ (both_true _ true alike refl) (both_true _ true f refl)) in
-    let m = match_tells letter_of same_cell (p ∷ q ∷ []) (falling only_cell only_cell) matched in
-    record { points = p ∷ q ∷ []; chosen = kept p (kept q (nothing_kept g)); order = m.order; fit = m.fit }
+two_fall : (p q : Point) (g : List Point) → p.cell ≡ only_cell → q.cell ≡ only_cell → q.letter < p.letter → Holds (p ∷ q ∷ g) (falling only_cell only_cell)
+two_fall p q g e f l = subst (λ (c : Cell). Holds (p ∷ q ∷ g) (falling c only_cell)) e (subst (λ (c : Cell). Holds (p ∷ q ∷ g) (falling p.cell c)) f (falling_held (first_two p q g) l))
 
-in_one_cell : (p : Point) → (p.cell.x < 1) × (p.cell.y < 1) → InOneCell p
-in_one_cell p k = both_true (p.cell.x == 0) (p.cell.y == 0) ((Decides-eqb p.cell.x 0).1 (omega (arith, k.0))) ((Decides-eqb p.cell.y 0).1 (omega (arith, k.1)))
+in_one_cell : (p : Point) → (p.cell.x < 1) × (p.cell.y < 1) → p.cell ≡ only_cell
+in_one_cell p k = let x : p.cell.x ≡ 0 = omega (arith, k.0) in let y : p.cell.y ≡ 0 = omega (arith, k.1) in λ i. record { x = x i; y = y i }
 
 differ : (x y : ℕ) (rest : Bool) → not ((x == y) || rest) ≡ true → ¬ (x ≡ y)
 differ x y rest h e = go (x == y) h ((Decides-eqb x y).1 e)

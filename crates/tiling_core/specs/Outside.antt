@@ -1,7 +1,8 @@
 -- The first pattern with a cell outside a grid.
 use Rattle.std.specs.Prelude.{◌≡◌, ◌<◌, ℕ, false, true, List, [], length, slice_index_or}
 use Rattle.gridded.specs.Grids.{Point}
-use Rattle.tiling_core.specs.Tiles.{IsInGrid, fits_grid}
+use Rattle.tiling_core.specs.Tiles.{IsInGrid}
+use Rattle.gridded.specs.Places.{fits_grid}
 
 -- the first pattern of a list
 pub record IsFirstOutside (w h : ℕ) (patterns : List (List Point)) (index : ℕ) : Type 0 where

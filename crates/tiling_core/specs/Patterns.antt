@@ -1,23 +1,15 @@
--- Small patterns, and what a tiling forbids.
-use Rattle.std.specs.Prelude.{ℕ, nat_lt, Bool, not, ◌&&◌, List, [], ◌∷◌, ◌++◌, filter}
+-- What a tiling forbids and requires.
+use Rattle.std.specs.Prelude.{ℕ, nat_lt, Bool, not, ◌&&◌, List, ◌++◌, filter}
 use Rattle.std.specs.List.{list_any}
+use Rattle.std.specs.Cmp.Lexicographic.{pointwise}
 use Rattle.gridded.specs.declared.cell.Cell.{Cell}
-use Rattle.gridded.specs.Grids.{Point, points, cells_in, holds}
+use Rattle.gridded.specs.Grids.{Point, cells_in, holds}
+use Rattle.gridded.specs.Small.{point_at}
 use Rattle.gridded.specs.CellSets.{is_among as has_cell}
 use Rattle.gridded.specs.Laws.{IsCellOf}
 use Rattle.gridded.specs.Orders.{gridded_eq}
 use Rattle.patterns.specs.Parts.{IsIn}
 use Rattle.tiling_core.specs.Tiles.{Tiles, tiling_of}
-
--- the patterns 0:c, 01:c.d and 10:c.d
-abbrev pub point_at : Cell → List Point
-point_at c = points (0 ∷ []) (c ∷ [])
-
-abbrev pub rising : Cell → Cell → List Point
-rising c d = points (0 ∷ 1 ∷ []) (c ∷ d ∷ [])
-
-abbrev pub falling : Cell → Cell → List Point
-falling c d = points (1 ∷ 0 ∷ []) (c ∷ d ∷ [])
 
 abbrev pub is_among : List (List Point) → List Point → Bool
 is_among patterns g = list_any (gridded_eq g) patterns
@@ -52,3 +44,7 @@ also t obstructions lists = tiling_of t.width t.height (obstructions ++ t.obstru
 -- t with those obstructions alone that hold no other
 abbrev pub with_minimal : Tiles → Tiles
 with_minimal t = tiling_of t.width t.height (minimal t.obstructions) t.requirements
+
+-- whether it is a requirement list
+abbrev pub requires_list : Tiles → List (List Point) → Bool
+requires_list t patterns = list_any (pointwise gridded_eq patterns) t.requirements

@@ -3,7 +3,7 @@ use Rattle.std.specs.Prelude.{ℕ, ◌==◌, List, [], ◌∷◌, map, if◌then
 use Rattle.gridded.specs.declared.cell.Cell.{Cell}
 use Rattle.gridded.specs.Grids.{Point}
 use Rattle.tiling_core.specs.Tiles.{Tiles, tiling_of}
-use Rattle.tiling_core.specs.Patterns.{point_at, rising, falling}
+use Rattle.gridded.specs.Small.{point_at, rising, falling}
 
 -- the cell of a grid of one column and one row
 abbrev pub only_cell : Cell

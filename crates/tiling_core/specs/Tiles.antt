@@ -1,10 +1,11 @@
 -- Tilings.
-use Rattle.std.specs.Prelude.{◌≡◌, ◌<◌, ◌≤◌, ℕ, Bool, true, not, ◌&&◌, nat_lt, List, length, map, filter, All}
+use Rattle.std.specs.Prelude.{◌≡◌, ◌<◌, ◌≤◌, ℕ, Bool, true, not, ◌&&◌, List, length, map, filter, All}
 use Rattle.std.specs.List.{list_all, list_any}
 use Rattle.std.specs.List.Sorted.{IsStrictlySortedBy}
 use Rattle.std.specs.Cmp.Lexicographic.{slice_cmp}
 use Rattle.gridded.specs.Grids.{Point, IsGridded, holds, gridded_of}
-use Rattle.gridded.specs.Orders.{gridded_cmp, cells_of}
+use Rattle.gridded.specs.Orders.{gridded_cmp}
+use Rattle.gridded.specs.Places.{fits_grid}
 use Rattle.sequences.specs.Ascending.{in_order}
 
 -- what a tiling is
@@ -13,9 +14,6 @@ pub record Tiles : Type 0 where
   pub height : ℕ
   pub obstructions : List (List Point)
   pub requirements : List (List (List Point))
-
-abbrev pub fits_grid : ℕ → ℕ → List Point → Bool
-fits_grid w h g = list_all (λ c. nat_lt c.x w && nat_lt c.y h) (cells_of g)
 
 abbrev pub IsInGrid : ℕ → ℕ → List (List Point) → Type 0
 IsInGrid w h patterns = All (λ g. fits_grid w h g ≡ true) patterns

@@ -3,8 +3,10 @@ ghost use Rattle.patterns.specs.Parts.{IsIn};
 ghost use Rattle.gridded.specs.declared.cell.Cell.{Cell};
 ghost use Rattle.gridded.specs.CellSets.{cells_that, is_among as has_cell, IsCellSet};
 ghost use Rattle.gridded.specs.Orders.{cell_eq, gridded_eq};
-ghost use Rattle.tiling_core.specs.Tiles.{IsInGrid, fits_grid};
-ghost use Rattle.tiling_core.specs.Patterns.{active_cells, is_among, is_free, point_at, IsActive};
+ghost use Rattle.tiling_core.specs.Tiles.{IsInGrid};
+ghost use Rattle.gridded.specs.Places.{fits_grid};
+ghost use Rattle.tiling_core.specs.Patterns.{active_cells, is_among, is_free, IsActive};
+ghost use Rattle.gridded.specs.Small.{point_at};
 
 use crate::tiling::Tiling;
 use gridded::{Cell, CellSet, Gridded};

@@ -1,7 +1,8 @@
 ghost use Rattle.std.specs.Prelude.{◌≡◌, ◌↔◌, IsTrue, not};
 ghost use Rattle.std.specs.List.{list_all, list_any};
 ghost use Rattle.gridded.specs.Grids.{holds};
-ghost use Rattle.tiling_core.specs.Tiles.{fits_grid, is_member};
+ghost use Rattle.gridded.specs.Places.{fits_grid};
+ghost use Rattle.tiling_core.specs.Tiles.{is_member};
 ghost use Rattle.tiling_core.specs.Members.{Member};
 
 use crate::tiling::Tiling;

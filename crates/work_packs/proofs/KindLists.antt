@@ -10,8 +10,8 @@ use Rattle.gridded.specs.declared.cell.Cell.{Cell}
 use Rattle.gridded.specs.Grids.{Point}
 use Rattle.tiling_core.specs.Tiles.{Tiles}
 use Rattle.tiling_core.specs.Measures.{weight}
-use Rattle.tiling_core.specs.Patterns.{point_at, active_cells}
-use Rattle.steps.specs.Patterns.{requires_list}
+use Rattle.gridded.specs.Small.{point_at}
+use Rattle.tiling_core.specs.Patterns.{active_cells, requires_list}
 use Rattle.steps.specs.Steps.{is_nil}
 use Rattle.emptiness.specs.Emptiness.{IsInferredOf}
 use Rattle.emptiness.proofs.Counted.{members_within_weight}

@@ -21,8 +21,8 @@ use Rattle.sequences.specs.Ascending.{in_order}
 use Rattle.sequences.proofs.InOrder.{in_order_ascends, in_order-is, All-in_order, list_all-in_order}
 use Rattle.tiling_core.specs.Tiles.{Tiles, IsTiling, AreGridded}
 use Rattle.tiling_core.specs.Measures.{weight}
-use Rattle.tiling_core.specs.Patterns.{point_at, forbids, active_cells}
-use Rattle.steps.specs.Patterns.{requires_list}
+use Rattle.gridded.specs.Small.{point_at}
+use Rattle.tiling_core.specs.Patterns.{forbids, active_cells, requires_list}
 use Rattle.steps.specs.Steps.{is_nil}
 use Rattle.emptiness.proofs.SmallPatterns.{fit-point}
 use Rattle.rule_kinds.specs.declared.kind.Kind.{Kind}

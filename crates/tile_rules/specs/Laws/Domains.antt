@@ -7,7 +7,8 @@ use Rattle.tiling_core.specs.Tiles.{Tiles, count}
 use Rattle.tiling_core.specs.Measures.{Positive, is_positive}
 use Rattle.tiling_core.specs.Carried.{MemberOf}
 use Rattle.tiling_core.proofs.Counted.{counts_add_up, renaming_keeps_counts}
-use Rattle.tiling_core.proofs.Deciding.{holds_decides, is_positive_decides}
+use Rattle.gridded.proofs.Holding.{holds_decides}
+use Rattle.tiling_core.proofs.Deciding.{is_positive_decides}
 use Rattle.tiling_core.proofs.Single.{count_without_members, unit_has_one_member, point_has_one_member}
 use Rattle.steps.proofs.Renamed.{steps_keep_members}
 use Rattle.normal_form.proofs.Tilings.{replays_keep_members}

@@ -5,7 +5,7 @@ use Rattle.gridded.specs.Grids.{Point, corner, letter_of}
 use Rattle.gridded.specs.Orders.{letters_of}
 use Rattle.coord_maps.specs.LineMaps.{first_line, parts_of}
 use Rattle.coord_maps.specs.Preimages.{may_come, placed_points, point_at}
-use Rattle.coord_maps.proofs.Moves.{is_true_so}
+use Rattle.gridded.proofs.Holding.{is_true}
 use Rattle.coord_maps.proofs.Runs.{some_part}
 use Rattle.coord_maps.proofs.Placed.{letter_at, cell_at_place, letters_differ, room-below, room-above}
 use Rattle.coord_maps.proofs.listing.room_of.Goals as goal
@@ -15,7 +15,7 @@ pub loop-place-preserved : goal.loop-place-preserved
 loop-place-preserved c =
     let within : c.loop-place.place < length c.args.g.now = omega (arith, c.loop-place-test.true, c.requires.within) in
     let place : c.loop-place.place < length c.args.cells.now = omega (arith, within, c.letters-letters.ensures.short) in
-    let apart = letters_differ (letters_of c.args.g.now) c.loop-place.place c.args.placed (is_true_so _ c.letters-letters.ensures.gridded.distinct) c.loop-place-test.true (omega (arith, c.requires.within, length-map c.args.g.now letter_of)) in
+    let apart = letters_differ (letters_of c.args.g.now) c.loop-place.place c.args.placed (is_true _ c.letters-letters.ensures.gridded.distinct) c.loop-place-test.true (omega (arith, c.requires.within, length-map c.args.g.now letter_of)) in
     record {
       left_in = omega (arith, c.max-left.ensures, c.loop-place.invariant.left_in);
       low_in = elim c.if-letters-place.branch [

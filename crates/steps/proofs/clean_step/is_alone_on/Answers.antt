@@ -3,11 +3,11 @@ use Rattle.std.specs.Prelude.{◌&&◌, not}
 use borrow.Author.Count.{below_more}
 use Rattle.gridded.specs.declared.axis.Axis.{Axis}
 use Rattle.gridded.specs.declared.cell.Cell.{Cell}
-use Rattle.gridded.specs.Axes.{line_of}
+use Rattle.gridded.specs.Axes.{line_of, cell_on}
 use Rattle.gridded.specs.Orders.{cell_eq}
 use Rattle.tiling_core.specs.Tiles.{Tiles}
-use Rattle.tiling_core.specs.Patterns.{forbids, point_at}
-use Rattle.steps.specs.Patterns.{cell_on}
+use Rattle.tiling_core.specs.Patterns.{forbids}
+use Rattle.gridded.specs.Small.{point_at}
 use Rattle.steps.specs.Steps.{sides}
 use Rattle.steps.proofs.Alone.{is_open_at, none_open, one_open, none_outside}
 use Rattle.steps.proofs.clean_step.is_alone_on.Goals as goal

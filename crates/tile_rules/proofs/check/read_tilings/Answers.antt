@@ -1,6 +1,6 @@
 use Rattle.std.proofs.Common.{arith}
 use Rattle.std.proofs.lemmas.List.Elements.{All-from_get_or}
-use Rattle.steps.specs.Steps.{void_tiling}
+use Rattle.tiling_core.specs.Roots.{void_tiling}
 use Rattle.tiling_core.specs.Tiles.{IsTiling}
 use Rattle.tile_rules.proofs.check.read_tilings.Goals as goal
 

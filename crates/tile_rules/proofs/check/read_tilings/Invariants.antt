@@ -1,5 +1,5 @@
 use Rattle.std.proofs.Common.{◌<◌, ℕ, get_or}
-use Rattle.steps.specs.Steps.{void_tiling}
+use Rattle.tiling_core.specs.Roots.{void_tiling}
 use Rattle.tiling_core.specs.Tiles.{IsTiling}
 use Rattle.tile_rules.proofs.check.read_tilings.Given as goal
 

@@ -1,6 +1,7 @@
 use Rattle.std.proofs.Common.{◌≡◌, take}
 use Rattle.gridded.specs.CellSets.{cells_that}
-use Rattle.tiling_core.specs.Patterns.{is_among, point_at}
+use Rattle.tiling_core.specs.Patterns.{is_among}
+use Rattle.gridded.specs.Small.{point_at}
 use Rattle.tiling_core.proofs.active_cells.point_cells.Given as goal
 
 abbrev pub invariant-loop-pattern : goal.invariant-loop-pattern

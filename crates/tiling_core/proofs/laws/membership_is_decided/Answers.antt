@@ -1,4 +1,5 @@
-use Rattle.tiling_core.proofs.Deciding.{holds_decides, is_member_decides}
+use Rattle.gridded.proofs.Holding.{holds_decides}
+use Rattle.tiling_core.proofs.Deciding.{is_member_decides}
 use Rattle.tiling_core.proofs.laws.membership_is_decided.Goals as goal
 
 pub returns : goal.returns

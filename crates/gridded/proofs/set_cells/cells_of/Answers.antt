@@ -1,8 +1,8 @@
 use Rattle.std.proofs.Common.{◌≡◌, ℕ, ◌∙◌, subst, arith}
 use Rattle.std.specs.List.{flat_map, range_with_len}
-use Rattle.emptiness.specs.Candidates.{column_of}
-use Rattle.emptiness.proofs.SmallPatterns.{set-step, columns-whole}
-use Rattle.emptiness.proofs.candidates.cells_of_set.Goals as goal
+use Rattle.gridded.specs.CellSets.{column_of}
+use Rattle.gridded.proofs.SetCells.{set-step, columns-whole}
+use Rattle.gridded.proofs.set_cells.cells_of.Goals as goal
 
 pub loop-x-preserved : goal.loop-x-preserved
 loop-x-preserved c = set-step c.args.set c.loop-x.x c.loop-x.found.items c.add_column.new.found.items c.loop-x.invariant c.in_ok-add_column.ensures
