@@ -1,6 +1,6 @@
 -- The sizes of a ledger.
 use Rattle.std.proofs.Common.{◌≡◌, ℕ, ◌+◌, ◌*◌, ◌≤◌, Bool, true, cond, List, [], ◌∷◌, length, length-append, refl, ap, ◌∙◌, arith}
-use Rattle.std.specs.Prelude.{map, flat_map}
+use Rattle.std.specs.Prelude.{map, flat_map, slice_get}
 use Rattle.std.specs.List.{position_or_len}
 use Rattle.std.proofs.lemmas.List.{length-map}
 use Rattle.std.proofs.lemmas.List.Sums.{sum_by-cons, sum_by-append}
@@ -44,20 +44,28 @@ module _ {C R : Type 0} (D : Meaning C R) where
       omega (arith, s, a, length-words_of cs rules, length-record_words cs r)
 
   module _ (l : Books C R) (is : IsLedger D l) where
-    few_words : filing_words D l.rules ≤ 2048 * length l.journal
+    pub few_words : filing_words D l.rules ≤ 2048 * length l.journal
     few_words =
         let w = words_of_filings (filings l.rules l.journal) (λ f i. let c = block_class D l is f.0 f.1 i in (is.filed f.0 f.1 c.0 i c.1).small) in
         let e = ap (filing_words D) (rules_of_filings l.rules l.journal is.all_rules) in
         omega (arith, w, e, length-filings l.rules l.journal)
 
-    pub has_sizes : (own : (c : C) → D.same c c ≡ true) → (exact : (a b : C) → D.same a b ≡ true → a ≡ b) → HasSizes D l
-    has_sizes own exact =
-        let all = length-children l.rules in
+    pub few_rules : length l.rules ≤ 1024 * length l.journal
+    few_rules = omega (arith, length-children l.rules, few_words)
+
+    pub few_classes : length (classes D l) ≤ 1 + 2048 * length l.journal
+    few_classes =
         let g = grows D.same (l.root ∷ []) (flat_map D.children l.rules) in
         let many = ap length (classes_by_rules D l is.all_rules ∙ g.1) in
+        omega (arith, length-children l.rules, few_words, many, g.2, length-append (l.root ∷ []) g.0)
+
+    pub has_sizes : (own : (c : C) → D.same c c ≡ true) → (exact : (a b : C) → D.same a b ≡ true → a ≡ b) → HasSizes D l
+    has_sizes own exact =
+        let g = grows D.same (l.root ∷ []) (flat_map D.children l.rules) in
         record {
-          few_classes = omega (arith, all, few_words, many, g.2, length-append (l.root ∷ []) g.0);
-          few_rules = omega (arith, all, few_words);
+          root_first = ap (λ cs. slice_get cs 0) (classes_by_rules D l is.all_rules ∙ g.1);
+          few_classes = few_classes;
+          few_rules = few_rules;
           few_words = omega (arith, few_words, length-words_of (classes D l) l.rules);
           done_are_classes = done_within D l is;
           records_are_within = records_within D own exact l is;

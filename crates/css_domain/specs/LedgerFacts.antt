@@ -34,6 +34,7 @@ module _ {C R : Type 0} (D : Meaning C R) where
 
   -- the sizes of a ledger, and its numbers, which are those of classes
   pub record HasSizes (l : Books C R) : Type 0 where
+    pub root_first : slice_get (classes D l) 0 ≡ Some l.root
     pub few_classes : length (classes D l) ≤ 1 + 2048 * length l.journal
     pub few_rules : length l.rules ≤ 1024 * length l.journal
     pub few_words : length (words_of (records D l)) ≤ 2048 * length l.journal
