@@ -34,7 +34,7 @@ use Rattle.steps.proofs.Moved.{holds-moved}
 use Rattle.steps.proofs.MovedOrder.{slice_cmp-map, sorted-map, gridded_cmp-moved, gridded_eq-moved, cell_eq-moved, shares_line-moved}
 use Rattle.steps.proofs.Closing.{is_off_line, IsOff, closing_keeps, open_cell, open_up, close_open_cell, open_off, open_close}
 use Rattle.steps.proofs.Lines.{IsBlank, blank_tells, off_line, cell_is_in, fits_closed}
-use Rattle.steps.proofs.OnLine.{cells_tell}
+use Rattle.gridded.proofs.GriddedLists.{from_IsIn-cells_in}
 use Rattle.steps.proofs.Shrinks.{ascending_list, ordered_lists, lists_apply}
 use Rattle.normal_form.specs.Known.{OnlyLines}
 
@@ -215,7 +215,7 @@ module _ (a : Axis) (i : ℕ) (t : Tiles) (k : IsTiling t) (e : is_blank a i t �
 
   fits_in_grid : (w h : ℕ) (d : Cell) → IsIn d (cells_in w h) → fits_grid w h (point_at d) ≡ true
   fits_in_grid w h d m =
-      let q = cells_tell w h d m in
+      let q = from_IsIn-cells_in w h d m in
       both_true (nat_lt d.x w && nat_lt d.y h) true (both_true (nat_lt d.x w) (nat_lt d.y h) (below d.x w q.0) (below d.y h q.1)) refl
     where
       below : (x n : ℕ) → x < n → nat_lt x n ≡ true

@@ -13,13 +13,13 @@ use Rattle.gridded.specs.OrderLaws.{gridded_total, gridded_exact}
 use Rattle.sequences.specs.Ascending.{in_order}
 use Rattle.sequences.proofs.InOrder.{All-in_order}
 use Rattle.sequences.proofs.Sums.{in_order_sum}
-use Rattle.steps.proofs.Pairs.{one_fits}
+use Rattle.gridded.proofs.SmallFits.{fit-point}
 use Rattle.tiling_core.specs.Tiles.{Tiles}
 use Rattle.tiling_core.specs.Measures.{longest, weight}
 use Rattle.tiling_core.specs.Patterns.{also}
 use Rattle.rule_kinds.specs.Lines.{in_grid, is_active, lies_in}
 
-pub ruleset fitting = (one_fits)
+pub ruleset fitting = (fit-point)
 
 -- ---- the weight
 abbrev longer_of : ℕ → List Point → ℕ

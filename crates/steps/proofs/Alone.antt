@@ -17,7 +17,8 @@ use Rattle.gridded.specs.Small.{point_at, rising, falling}
 use Rattle.tiling_core.specs.Patterns.{forbids, active_cells, requires_list}
 use Rattle.steps.specs.Steps.{sides, is_isolated}
 use Rattle.steps.proofs.ListTests.{which_passes, some_passes}
-use Rattle.steps.proofs.OnLine.{on_its_line, cell_on_is_in, cell_on_is_on, cells_tell}
+use Rattle.steps.proofs.OnLine.{on_its_line, cell_on_is_in, cell_on_is_on}
+use Rattle.gridded.proofs.GriddedLists.{from_IsIn-cells_in}
 
 -- another cell on the line of c
 abbrev pub is_other_on : Axis → Cell → Cell → Bool
@@ -50,8 +51,8 @@ one_open a c t k b l e =
 
 -- no cell of the grid is on a line past it
 line_is_low : (a : Axis) (t : Tiles) (d : Cell) → IsIn d (cells_in t.width t.height) → line_of a d < line_of a (sides t)
-line_is_low Column t d m = (cells_tell t.width t.height d m).0
-line_is_low Row t d m = (cells_tell t.width t.height d m).1
+line_is_low Column t d m = (from_IsIn-cells_in t.width t.height d m).0
+line_is_low Row t d m = (from_IsIn-cells_in t.width t.height d m).1
 
 pub none_outside : (a : Axis) (c : Cell) (t : Tiles) → line_of a (sides t) ≤ line_of a c → list_any (is_other_on a c) (active_cells t) ≡ false
 none_outside a c t h = go (list_any (is_other_on a c) (active_cells t)) refl

@@ -25,7 +25,10 @@ use Rattle.steps.specs.Steps.{is_isolated, is_other_list, cleaned, cleaned_list,
 use Rattle.steps.proofs.ListTests.{each_passes, which_passes, list_all-agree, list_any-agree, list_any-map, some_passes}
 use Rattle.gridded.proofs.Holding.{holds_from, same_cell_from, held_point, is_true}
 use Rattle.steps.proofs.Minimal.{EachGridded}
-use Rattle.steps.proofs.Members.{holds_none_of, meets_each, is_member-tiling_of}
+use Rattle.steps.proofs.Members.{holds_none_of, meets_each}
+use Rattle.tiling_core.proofs.Ordered.{is_member-tiling_of}
+use Rattle.patterns.proofs.PartLaws.{IsPart-one}
+use Rattle.gridded.proofs.Pairs.{holds_pair}
 use Rattle.steps.proofs.Lines.{holds_point, cell_is_in, cell_in_grid}
 use Rattle.steps.proofs.PutBack.{IsLone, IsOffBoth, Follows, gridded_tells}
 use Rattle.steps.proofs.PutBack.IsLone.{lone_first, lone_next}
@@ -90,17 +93,6 @@ module _ (c : Cell) where
   none_elsewhere : (d : Cell) → cell_eq c d ≡ false → has_one_point_in c (point_at d) ≡ false
   none_elsewhere d e = rw e refl
 
-  pair_held : (g : List Point) (x y : Point) → IsPart (x ∷ y ∷ []) g → x.cell ≡ c → y.cell ≡ c → (a b : ℕ) → stand_alike x.letter a y.letter b ≡ true → holds g (record { letter = a; cell = c } ∷ record { letter = b; cell = c } ∷ []) ≡ true
-  pair_held g x y h ex ey a b s =
-      let p : Point = record { letter = a; cell = c } in
-      let q : Point = record { letter = b; cell = c } in
-      let last = both_true (same_cell y q) true (same_cell_from y q ey) refl in
-      let st : stands_as letter_of same_cell x p (y ∷ []) (q ∷ []) ≡ true = both_true (stand_alike x.letter a y.letter b) true s refl in
-      let f = both_true (same_cell x p) (stands_as letter_of same_cell x p (y ∷ []) (q ∷ []) && is_match letter_of same_cell (y ∷ []) (q ∷ [])) (same_cell_from x p ex)
-      (both_true (stands_as letter_of same_cell x p (y ∷ []) (q ∷ [])) (is_match letter_of same_cell (y ∷ []) (q ∷ [])) st last) in
-      let m = match_tells letter_of same_cell (x ∷ y ∷ []) (p ∷ q ∷ []) f in
-      holds_from g (p ∷ q ∷ []) (record { points = x ∷ y ∷ []; chosen = h; order = m.order; fit = m.fit })
-
   rises : (x y : ℕ) → nat_lt x y ≡ true → stand_alike x 0 y 1 ≡ true
   rises x y e = grind (arith, nat_tests)
 
@@ -113,11 +105,11 @@ module _ (c : Cell) where
     where
       go : (b : Bool) → nat_lt x.letter y.letter ≡ b → ⊥
       go true e =
-          let u = pair_held g x y h ex ey 0 1 (rises x.letter y.letter e) in
+          let u = holds_pair g 0 1 c c x y h ex ey (rises x.letter y.letter e) in
           let v = k.no_other (rising c c) i.no_rise two_in_rising in
           cc
       go false e =
-          let u = pair_held g x y h ex ey 1 0 (falls x.letter y.letter e d) in
+          let u = holds_pair g 1 0 c c x y h ex ey (falls x.letter y.letter e d) in
           let v = k.no_other (falling c c) i.no_fall two_in_falling in
           cc
 
@@ -147,14 +139,6 @@ module _ (c : Cell) where
   abbrev HasLone : List Point → Type 0
   HasLone g = (x : Point) × IsLone c x g
 
-  part_of_one : {p : Point} {g : List Point} → IsIn p g → IsPart (p ∷ []) g
-  part_of_one {p = p} (here {xs = g}) = kept p (nothing g)
-    where
-      nothing : (h : List Point) → IsPart [] h
-      nothing [] = none
-      nothing (x ∷ h) = left_out x (nothing h)
-  part_of_one (later q m) = left_out q (part_of_one m)
-
   lone_from : (g : List Point) → is_gridded g ≡ true → ((y : Point) → IsIn y g → (y.cell ≡ c) ⊎ IsOffBoth c y) → ((x y : Point) → IsPart (x ∷ y ∷ []) g → (x.letter == y.letter) ≡ false → x.cell ≡ c → y.cell ≡ c → ⊥) → (x : Point) → IsIn x g → x.cell ≡ c → HasLone g
   lone_from [] k each two x m e = elim m [ ]
   lone_from (z ∷ g) k each two x m e =
@@ -164,7 +148,7 @@ module _ (c : Cell) where
       u = gridded_tells z g k
 
       off : z.cell ≡ c → (q : Point) → IsIn q g → IsOffBoth c q
-      off f q i = ⊎_elim {C = IsOffBoth c q} (λ h. absurd (two z q (kept z (part_of_one i)) (u.1 q i).distinct f h)) (λ o. o) (each q (later z i))
+      off f q i = ⊎_elim {C = IsOffBoth c q} (λ h. absurd (two z q (kept z (IsPart-one i)) (u.1 q i).distinct f h)) (λ o. o) (each q (later z i))
 
       first : z.cell ≡ c → HasLone (z ∷ g)
       first f = (z, lone_first f (off f))

@@ -4,7 +4,6 @@ pub mod Minimal
 pub mod Shorter
 pub mod LeastSoFar
 pub mod Small
-pub mod Pairs
 pub mod InGrid
 pub mod Members
 pub mod Implied

@@ -25,37 +25,23 @@ use Rattle.tiling_core.specs.Patterns.{forbids, active_cells}
 use Rattle.steps.specs.Steps.{sides, misses, is_blank, close_cell, close_up, without_line}
 use Rattle.steps.proofs.ListTests.{each_passes, which_passes, none_passes, list_all-agree, list_any-agree, list_any-map}
 use Rattle.gridded.proofs.Holding.{holds_from, same_cell_from, held_point}
-use Rattle.steps.proofs.Members.{holds_none_of, meets_each, is_member-tiling_of}
+use Rattle.steps.proofs.Members.{holds_none_of, meets_each}
+use Rattle.tiling_core.proofs.Ordered.{is_member-tiling_of}
+use Rattle.gridded.proofs.GriddedLists.{IsIn-cells_in}
+use Rattle.gridded.proofs.Pairs.{holds_its_point}
 use Rattle.steps.proofs.Moved.{holds-moved}
 use Rattle.steps.proofs.Closing.{is_off_line, IsOff, closing_keeps, closed_below}
 
 -- ---- points
-part_of_one : {p : Point} {g : List Point} → IsIn p g → IsPart (p ∷ []) g
-part_of_one {p = p} (here {xs = g}) = kept p (nothing g)
-  where
-    nothing : (h : List Point) → IsPart [] h
-    nothing [] = none
-    nothing (x ∷ h) = left_out x (nothing h)
-part_of_one (later q m) = left_out q (part_of_one m)
-
 -- a point in a cell is an occurrence of the point there
 pub holds_point : (p : Point) {g : List Point} → IsIn p g → holds g (point_at p.cell) ≡ true
-holds_point p {g = g} m =
-    let d : Point = record { letter = 0; cell = p.cell } in
-    let e = both_true (same_cell p d) true (same_cell_from p d refl) refl in
-    let w = match_tells letter_of same_cell (p ∷ []) (point_at p.cell) e in
-    holds_from g (point_at p.cell) (record { points = p ∷ []; chosen = part_of_one m; order = w.order; fit = w.fit })
+holds_point p {g = g} m = holds_its_point g p p.cell m refl
 
 lower : (a b : ℕ) → nat_lt a b ≡ true → a < b
 lower a b e = grind (arith, nat_tests)
 
 pub cell_is_in : (w h : ℕ) (c : Cell) → (nat_lt c.x w && nat_lt c.y h) ≡ true → IsIn c (cells_in w h)
-cell_is_in w h c e =
-    let k = and_true (nat_lt c.x w) (nat_lt c.y h) e in
-    let x = lower c.x w k.0 in
-    let y = lower c.y h k.1 in
-    IsIn-flat_map (λ (z : ℕ). map (λ v. record { x = z; y = v }) (range_with_len 0 h)) (in_range_with_len 0 w c.x (omega arith) (omega arith))
-    (IsIn-map {Y = Cell} (λ (v : ℕ). record { x = c.x; y = v }) (in_range_with_len 0 h c.y (omega arith) (omega arith)))
+cell_is_in w h c e = let k = and_true (nat_lt c.x w) (nat_lt c.y h) e in IsIn-cells_in w h c (lower c.x w k.0, lower c.y h k.1)
 
 pub cell_in_grid : (w h : ℕ) (g : List Point) (p : Point) → fits_grid w h g ≡ true → IsIn p g → (nat_lt p.cell.x w && nat_lt p.cell.y h) ≡ true
 cell_in_grid w h g p e m = each_passes (λ (c : Cell). nat_lt c.x w && nat_lt c.y h) e (IsIn-map cell_of m)

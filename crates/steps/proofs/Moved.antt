@@ -13,6 +13,7 @@ use Rattle.gridded.specs.declared.cell.Cell.{Cell}
 use Rattle.gridded.specs.Grids.{Point, same_cell, letter_of, may_follow, is_consistent, is_gridded, holds}
 use Rattle.gridded.specs.Orders.{letters_of}
 use Rattle.gridded.specs.Moved.{move_cells}
+use Rattle.gridded.proofs.Moved.{letters_moved}
 
 pub eq_by_lt : (a b : ℕ) → (a == b) ≡ (not (nat_lt a b) && not (nat_lt b a))
 eq_by_lt a b = grind (arith, nat_tests)
@@ -53,12 +54,8 @@ module _ (f : Cell → Cell) (ok : Cell → Bool) (keeps : KeepsOrder f ok) wher
   consistent-moved [] k = refl
   consistent-moved (p ∷ g) k = rw (all_follow-moved p g (k p here) (λ r m. k r (later p m)), consistent-moved g (λ r m. k r (later p m)))
 
-  pub letters-moved : (g : List Point) → letters_of (move_cells f g) ≡ letters_of g
-  letters-moved [] = refl
-  letters-moved (p ∷ g) = ap (λ ls. p.letter ∷ ls) (letters-moved g)
-
   pub gridded-moved : (g : List Point) → AllOk g → is_gridded (move_cells f g) ≡ is_gridded g
-  gridded-moved g k = rw (letters-moved g, consistent-moved g k)
+  gridded-moved g k = rw (letters_moved f g, consistent-moved g k)
 
   stands_as-moved : (x a : Point) (xs ys : List Point) → stands_as letter_of same_cell (moved x) (moved a) (map moved xs) (map moved ys) ≡ stands_as letter_of same_cell x a xs ys
   stands_as-moved x a [] [] = refl

@@ -17,7 +17,8 @@ use Rattle.gridded.specs.Orders.{cell_cmp, cell_eq, gridded_cmp, gridded_eq, cel
 use Rattle.gridded.specs.OrderLaws.{gridded_ties}
 use Rattle.gridded.specs.Moved.{move_cells}
 use Rattle.gridded.specs.Axes.{shares_line}
-use Rattle.steps.proofs.Moved.{KeepsOrder, AllOk, letters-moved, eq_by_lt}
+use Rattle.gridded.proofs.Moved.{letters_moved, length-moved}
+use Rattle.steps.proofs.Moved.{KeepsOrder, AllOk, eq_by_lt}
 
 -- ---- lists that are mapped
 module _ {A B : Type 0} (f : A → B) (R : A → A → Ordering) (S : B → B → Ordering) where
@@ -79,11 +80,7 @@ module _ (f : Cell → Cell) (ok : Cell → Bool) (keeps : KeepsOrder f ok) wher
   pub gridded_cmp-moved : (g h : List Point) → AllOk f ok keeps g → AllOk f ok keeps h → gridded_cmp (move_cells f g) (move_cells f h) ≡ gridded_cmp g h
   gridded_cmp-moved g h j k =
       let cells = slice_cmp-map f cell_cmp cell_cmp (cells_of g) (cells_of h) (λ c d m n. cell_cmp-moved c d (cell_ok g j c m) (cell_ok h k d n)) in
-      rw (as_long g, as_long h, letters-moved f ok keeps g, letters-moved f ok keeps h, cells-moved g, cells-moved h, cells) refl
-    where
-      as_long : (p : List Point) → length (move_cells f p) ≡ length p
-      as_long [] = refl
-      as_long (q ∷ p) = ap suc (as_long p)
+      rw (length-moved f g, length-moved f h, letters_moved f g, letters_moved f h, cells-moved g, cells-moved h, cells) refl
 
   pub gridded_eq-moved : (g h : List Point) → AllOk f ok keeps g → AllOk f ok keeps h → gridded_eq (move_cells f g) (move_cells f h) ≡ gridded_eq g h
   gridded_eq-moved g h j k = gridded_ties (move_cells f g) (move_cells f h) ∙ ap is_eq (gridded_cmp-moved g h j k) ∙ sym (gridded_ties g h)

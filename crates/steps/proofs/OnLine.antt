@@ -25,6 +25,7 @@ use Rattle.steps.specs.Steps.{sides, misses, is_blank, close_cell, close_up}
 use Rattle.steps.proofs.ListTests.{each_passes, some_passes, which_passes, at_each}
 use Rattle.gridded.proofs.Holding.{is_true}
 use Rattle.steps.proofs.Lines.{cell_is_in, off_line, fits_closed, blank_tells}
+use Rattle.gridded.proofs.GriddedLists.{from_IsIn-cells_in}
 use Rattle.steps.proofs.Closing.{is_off_line, closing_keeps}
 use Rattle.steps.proofs.Moved.{gridded-moved}
 use Rattle.steps.proofs.InGrid.{all_in}
@@ -36,18 +37,10 @@ below a b e = grind (arith, nat_tests)
 below_is : (a b : ℕ) → a < b → nat_lt a b ≡ true
 below_is a b l = grind (arith, nat_tests)
 
-pub cells_tell : (w h : ℕ) (c : Cell) → IsIn c (cells_in w h) → (c.x < w) × (c.y < h)
-cells_tell w h c m =
-    let k = from_IsIn-flat_map (λ (x : ℕ). map (λ y. record { x = x; y = y }) (range_with_len 0 h)) (range_with_len 0 w) m in
-    let l = from_IsIn-map {Y = Cell} (λ y. record { x = k.0; y = y }) (range_with_len 0 h) k.2 in
-    let u = IsIn-range_with_len 0 w k.0 k.1 in
-    let v = IsIn-range_with_len 0 h l.0 l.1 in
-    subst (λ (d : Cell). (d.x < w) × (d.y < h)) (sym l.2) (omega (arith, u.1), omega (arith, v.1))
-
 -- a cell of the grid on a line is at some place of it
 pub on_its_line : (a : Axis) (i : ℕ) (t : Tiles) (c : Cell) → IsIn c (cells_in t.width t.height) → is_on a i c ≡ true → (k : ℕ) × (k < line_of (across a) (sides t)) × (c ≡ cell_on a i k)
-on_its_line Column i t c m e = let b = cells_tell t.width t.height c m in let f = (Decides-eqb c.x i).0 e in (c.y, b.1, (λ j. record { x = f j; y = c.y }))
-on_its_line Row i t c m e = let b = cells_tell t.width t.height c m in let f = (Decides-eqb c.y i).0 e in (c.x, b.0, (λ j. record { x = c.x; y = f j }))
+on_its_line Column i t c m e = let b = from_IsIn-cells_in t.width t.height c m in let f = (Decides-eqb c.x i).0 e in (c.y, b.1, (λ j. record { x = f j; y = c.y }))
+on_its_line Row i t c m e = let b = from_IsIn-cells_in t.width t.height c m in let f = (Decides-eqb c.y i).0 e in (c.x, b.0, (λ j. record { x = c.x; y = f j }))
 
 pub cell_on_is_in : (a : Axis) (i k : ℕ) (t : Tiles) → i < line_of a (sides t) → k < line_of (across a) (sides t) → IsIn (cell_on a i k) (cells_in t.width t.height)
 cell_on_is_in Column i k t b l = cell_is_in t.width t.height (record { x = i; y = k }) (both_true (nat_lt i t.width) (nat_lt k t.height) (below_is i t.width b) (below_is k t.height l))

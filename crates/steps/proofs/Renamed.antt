@@ -29,7 +29,8 @@ use Rattle.steps.specs.declared.step.Step.TheVariants.{Min, Clean, Lists, Column
 use Rattle.steps.proofs.ListTests.{each_passes, all_pass, which_passes, some_passes, at_each}
 use Rattle.gridded.proofs.Holding.{holds_tells, holds_from, holds_empty}
 use Rattle.steps.proofs.Minimal.{holds_none_minimal}
-use Rattle.steps.proofs.Members.{holds_none_of, meets_each, is_member-tiling_of}
+use Rattle.steps.proofs.Members.{holds_none_of, meets_each}
+use Rattle.tiling_core.proofs.Ordered.{is_member-tiling_of}
 use Rattle.steps.proofs.Tidied.{meets_tidied}
 use Rattle.steps.proofs.Moved.{gridded-moved}
 use Rattle.steps.proofs.Closing.{IsOff, is_off_line, closing_keeps, open_cell, open_up, close_open, open_close, opened_is_off}

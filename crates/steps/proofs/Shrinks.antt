@@ -22,7 +22,7 @@ use Rattle.tiling_core.specs.Patterns.{is_among, holds_another}
 use Rattle.steps.specs.declared.step.Step.TheVariants.{Lists}
 use Rattle.steps.specs.Steps.{step_applies, useful, is_implied, tidied, tidy_lists, is_useless, is_untidy, are_untidy}
 use Rattle.steps.proofs.ListTests.{which_passes, none_passes, all_pass, at_each}
-use Rattle.steps.proofs.Members.{lists_exact}
+use Rattle.tiling_core.proofs.Kept.{lists_exact}
 use Rattle.steps.proofs.Tidied.{is_possible, remaining}
 use Rattle.steps.proofs.OnLine.{filter-all}
 

@@ -6,6 +6,7 @@ use Rattle.std.specs.List.Sorted.{IsStrictlySortedBy}
 use Rattle.std.specs.declared.cmp.Ordering.{Ordering}
 use Rattle.std.specs.declared.cmp.Ordering.TheVariants.{Less}
 use Rattle.std.proofs.lemmas.List.Folds.{list_all-map}
+use Rattle.std.proofs.lemmas.List.Kept.{IsStrictlySortedBy-filter}
 use Rattle.patterns.proofs.Booleans.{not_true, not_false, same_test}
 use Rattle.patterns.proofs.Lists.{from_IsIn-filter, IsIn-filter, from_IsIn-map}
 use Rattle.patterns.specs.Parts.{IsIn}
@@ -21,23 +22,6 @@ use Rattle.steps.proofs.Members.{meets_each, holds_none_of}
 use Rattle.steps.proofs.Implied.{IsTidyList, meets_unimplied}
 
 -- ---- what a filter leaves
-all_filtered : {X : Type 0} (P : X → Type 0) (p : X → Bool) (xs : List X) → AllByRecursion P xs → AllByRecursion P (filter p xs)
-all_filtered P p [] h = tt
-all_filtered P p (x ∷ xs) h = go (p x) (all_filtered P p xs h.1)
-  where
-    go : (b : Bool) → AllByRecursion P (filter p xs) → AllByRecursion P (cond b (x ∷ filter p xs) (filter p xs))
-    go true k = (h.0, k)
-    go false k = k
-
-filter_ascends : {X : Type 0} (cmp : X → X → Ordering) (p : X → Bool) (xs : List X) → IsStrictlySortedBy cmp xs → IsStrictlySortedBy cmp (filter p xs)
-unfolding IsStrictlySortedBy
-filter_ascends cmp p [] h = h
-filter_ascends cmp p (x ∷ xs) h = go (p x) (filter_ascends cmp p xs h.1)
-  where
-    go : (b : Bool) → IsStrictlySortedBy cmp (filter p xs) → IsStrictlySortedBy cmp (cond b (x ∷ filter p xs) (filter p xs))
-    go true k = (all_filtered (λ y. cmp x y ≡ Less) p xs h.0, k)
-    go false k = k
-
 gridded_filtered : (p : List Point → Bool) (patterns : List (List Point)) → EachGridded patterns → EachGridded (filter p patterns)
 gridded_filtered p patterns k g m = k g (from_IsIn-filter p patterns m).0
 
@@ -50,7 +34,7 @@ module _ (obstructions : List (List Point)) where
   is_tidy patterns s k =
       let left = filter (is_possible obstructions) patterns in
       record {
-        ascends = filter_ascends gridded_cmp (λ g. not (holds_another left g)) left (filter_ascends gridded_cmp (is_possible obstructions) patterns s);
+        ascends = IsStrictlySortedBy-filter gridded_cmp (λ g. not (holds_another left g)) left (IsStrictlySortedBy-filter gridded_cmp (is_possible obstructions) patterns s);
         gridded = gridded_filtered (λ g. not (holds_another left g)) left (gridded_filtered (is_possible obstructions) patterns k);
         apart = λ g p m i e. minimal_apart left g p m (from_IsIn-filter (λ h. not (holds_another left h)) left i).0 e;
       }

@@ -9,7 +9,7 @@ ghost use Rattle.tiling_core.specs.Patterns.{forbids, active_cells, requires_lis
 ghost use Rattle.gridded.specs.Places.{has_one_point_in};
 ghost use Rattle.steps.specs.Steps.{is_isolated, is_other_list, can_be_cleaned, cleaned, cleaned_list, clean};
 
-use crate::pattern::{cell_on, cells_across, falling, forbids, point_at, rising, sides};
+use crate::pattern::{cell_on, cells_across, forbids, sides};
 use gridded::{Axis, Cell, Gridded, without};
 use sequences::{Copied, Sequence};
 use std::alloc::{AllocError, Global};
@@ -37,7 +37,7 @@ fn requires_pattern(tiling: &Tiling, pattern: &Gridded) -> bool
 fn is_open(tiling: &Tiling, cell: Cell, other: Cell) -> bool
     ensures { result ≡ (not (cell_eq other cell) && not (forbids tiling.now (point_at other))) }
 {
-    other != cell && !forbids(tiling, &point_at(other))
+    other != cell && !forbids(tiling, &Gridded::point_at(other))
 }
 
 /// Whether no other cell of a cell's column, or of its row, has a point.
@@ -62,10 +62,10 @@ fn is_alone_on(tiling: &Tiling, axis: Axis, cell: Cell) -> bool
 pub(crate) fn is_isolated(tiling: &Tiling, cell: Cell) -> bool
     ensures { result ≡ is_isolated tiling.now cell }
 {
-    if !requires_pattern(tiling, &point_at(cell)) {
+    if !requires_pattern(tiling, &Gridded::point_at(cell)) {
         return false;
     }
-    if !forbids(tiling, &rising(cell)) || !forbids(tiling, &falling(cell)) {
+    if !forbids(tiling, &Gridded::rising(cell, cell)) || !forbids(tiling, &Gridded::falling(cell, cell)) {
         return false;
     }
     is_alone_on(tiling, Axis::Column, cell) && is_alone_on(tiling, Axis::Row, cell)
@@ -89,7 +89,7 @@ fn some_have_one_point_in(patterns: &[Gridded], cell: Cell) -> bool
 fn is_other_list(patterns: &[Gridded], cell: Cell) -> bool
     ensures { result ≡ is_other_list cell patterns.now }
 {
-    !is_list_of(patterns, &point_at(cell))
+    !is_list_of(patterns, &Gridded::point_at(cell))
 }
 
 /// Whether a list other than that of the point at a cell has a pattern with exactly one point there.

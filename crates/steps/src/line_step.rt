@@ -5,7 +5,7 @@ ghost use Rattle.gridded.specs.Axes.{line_of, is_on};
 ghost use Rattle.tiling_core.specs.Patterns.{active_cells};
 ghost use Rattle.steps.specs.Steps.{sides, misses, is_blank, closed_line, close_cell, close_up, without_line};
 
-use crate::pattern::{cell_on, cells_across, forbids, misses, point_at, sides};
+use crate::pattern::{cell_on, cells_across, forbids, misses, sides};
 use gridded::{Axis, Cell, Gridded};
 use sequences::Sequence;
 use std::alloc::{AllocError, Global};
@@ -18,7 +18,7 @@ fn is_inactive(tiling: &Tiling, axis: Axis, line: u8) -> bool
     ensures { result ≡ not (list_any (is_on axis line) (active_cells tiling.now)) }
 {
     for place in 0..cells_across(tiling, axis) {
-        if !forbids(tiling, &point_at(cell_on(axis, line, place))) {
+        if !forbids(tiling, &Gridded::point_at(cell_on(axis, line, place))) {
             return false;
         }
     }

@@ -1,8 +1,7 @@
-// Small patterns, and where the points of a pattern lie.
+// What a tiling forbids, and where the points of a pattern lie.
 ghost use Rattle.std.specs.Prelude.{◌≡◌, ◌≤◌};
 ghost use Rattle.std.specs.List.{list_any};
 ghost use Rattle.gridded.specs.Grids.{holds};
-ghost use Rattle.gridded.specs.Small.{point_at, rising, falling};
 ghost use Rattle.tiling_core.specs.Patterns.{forbids};
 ghost use Rattle.gridded.specs.Axes.{is_on, cell_on};
 ghost use Rattle.gridded.specs.Places.{touches};
@@ -12,30 +11,6 @@ ghost use Rattle.steps.specs.Steps.{misses, sides};
 
 use gridded::{Axis, Cell, Gridded, holds};
 use tiling_core::Tiling;
-
-/// The point at a cell.
-#[tactic(auto, using(crate::proofs::Pairs::one_fits))]
-pub(crate) fn point_at(cell: Cell) -> Gridded
-    ensures { result ≡ point_at cell }
-{
-    Gridded::from_consistent(&[0], &[cell])
-}
-
-/// Two points of a cell, the right one higher.
-#[tactic(auto, using(crate::proofs::Pairs::rising_fits))]
-pub(crate) fn rising(cell: Cell) -> Gridded
-    ensures { result ≡ rising cell cell }
-{
-    Gridded::from_consistent(&[0, 1], &[cell, cell])
-}
-
-/// Two points of a cell, the right one lower.
-#[tactic(auto, using(crate::proofs::Pairs::falling_fits))]
-pub(crate) fn falling(cell: Cell) -> Gridded
-    ensures { result ≡ falling cell cell }
-{
-    Gridded::from_consistent(&[1, 0], &[cell, cell])
-}
 
 /// Whether a pattern is an obstruction. Takes no memory.
 pub(crate) fn forbids(tiling: &Tiling, pattern: &Gridded) -> bool

@@ -46,8 +46,7 @@ pub(crate) fn is_hopeless(tiling: &Tiling) -> bool
 pub(crate) fn void_tiling(alloc: Global) -> Result<Tiling, AllocError>
     ensures { IfOk result (λ tiling. tiling ≡ void_tiling) }
 {
-    let empty = Gridded::from_consistent(&[], &[]);
-    Tiling::in_grid(0, 0, vec![in alloc; empty]?, Vec::new(alloc))
+    Tiling::in_grid(0, 0, vec![in alloc; Gridded::empty()]?, Vec::new(alloc))
 }
 
 /// Whether a tiling is the void tiling. Takes no memory.
