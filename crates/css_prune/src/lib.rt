@@ -2,8 +2,14 @@
 //! ledger's picks make (docs/RULES.md, "Standing").
 #![tactic(auto)]
 
+mod entry;
+mod faults;
 mod gift;
 mod pruned;
 mod round;
+mod spec;
 
+pub use entry::Entry;
+pub use faults::SpecFault;
 pub use pruned::{Pruned, prune};
+pub use spec::Spec;
