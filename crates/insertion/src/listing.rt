@@ -5,8 +5,8 @@ ghost use Rattle.insertion.specs.Open.{insertion_at, insertions_in};
 
 use crate::required::required_cells;
 use gridded::{Cell, CellSet, Gridded};
+use rule_kinds::Kind;
 use std::alloc::{AllocError, Global};
-use tile_rules::Kind;
 use tiling_core::{Tiling, active};
 
 /// The pattern of one point.

@@ -8,6 +8,7 @@ pub mod TriedRows
 pub mod Joined
 pub mod ListTests
 pub mod Applied
+pub mod Applying
 pub mod NoMembers
 pub mod Inferred
 pub mod Inferring

@@ -1,3 +1,2 @@
 pub mod OneCell
-pub mod Applying
 pub mod Checked

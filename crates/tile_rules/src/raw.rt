@@ -3,24 +3,12 @@ ghost use Rattle.tiling_core.specs.Tiles.{IsInGrid};
 ghost use Rattle.tiling_core.specs.Patterns.{also};
 ghost use Rattle.rule_kinds.specs.Built.{applies_now, IsRawRefused};
 ghost use Rattle.rule_kinds.specs.Children.{raw_children};
-ghost use Rattle.rule_kinds.specs.Lines.{in_grid};
 
 use gridded::Gridded;
-use rule_kinds::{Kind, RawFault, also, applies, requiring};
+use insertion::children;
+use rule_kinds::{Kind, RawFault, also, applies};
 use std::alloc::{AllocError, Global};
 use tiling_core::Tiling;
-
-/// The tiling without the pattern, and that with it.
-#[tactic(auto, using(rule_kinds::proofs::Joined::single))]
-fn inserted(alloc: Global, tiling: &Tiling, pattern: Gridded) -> Result<Vec<Tiling>, AllocError>
-    requires { in_grid tiling.now pattern ≡ true }
-    ensures { IfOk result (λ children. children.items ≡ also tiling.now (pattern ∷ []) [] ∷ also tiling.now [] ((pattern ∷ []) ∷ []) ∷ []) }
-{
-    let mut children = Vec::new(alloc);
-    children.push(also(alloc, tiling, &[pattern], &[])?)?;
-    children.push(requiring(alloc, tiling, pattern)?)?;
-    Ok(children)
-}
 
 /// The tiling without the patterns.
 #[tactic(auto, using(rule_kinds::proofs::Joined::single))]
@@ -35,13 +23,13 @@ fn inferred(alloc: Global, tiling: &Tiling, patterns: &[Gridded]) -> Result<Vec<
 
 /// The children of a tiling by a kind that applies, before they are reduced (docs/RULES.md, "Kinds of rules"). The
 /// refusal is want of memory.
-#[tactic(auto, using(crate::proofs::Applying::applying), unfolding(rule_kinds::specs::Children::raw_children, rule_kinds::specs::Conditions::applies))]
+#[tactic(auto, using(rule_kinds::proofs::Applying::applying), unfolding(rule_kinds::specs::Children::raw_children, rule_kinds::specs::Conditions::applies))]
 pub fn children_of(alloc: Global, tiling: &Tiling, kind: &Kind) -> Result<Vec<Tiling>, AllocError>
     requires { applies_now tiling.now kind.now ≡ true }
     ensures { IfOk result (λ children. children.items ≡ raw_children tiling.now kind.now) }
 {
     match kind {
-        Kind::Insert(pattern) => inserted(alloc, tiling, *pattern),
+        Kind::Insert(pattern) => children(alloc, tiling, *pattern),
         Kind::Infer(patterns) => inferred(alloc, tiling, patterns.as_slice()),
         _ => Ok(Vec::new(alloc)),
     }
