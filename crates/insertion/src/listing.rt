@@ -1,5 +1,4 @@
 ghost use Rattle.std.specs.Prelude.{◌≡◌, ◌<◌, ◌≤◌, ◌++◌, IfOk, OnOk};
-ghost use Rattle.gridded.specs.Small.{point_at};
 ghost use Rattle.rule_kinds.specs.Choices.{insertions};
 ghost use Rattle.insertion.specs.Open.{insertion_at, insertions_in};
 
@@ -8,14 +7,6 @@ use gridded::{Cell, CellSet, Gridded};
 use rule_kinds::Kind;
 use std::alloc::{AllocError, Global};
 use tiling_core::{Tiling, active};
-
-/// The pattern of one point.
-#[tactic(auto, using(emptiness::proofs::SmallPatterns::fitting))]
-fn point_at(cell: Cell) -> Gridded
-    ensures { result ≡ point_at cell }
-{
-    Gridded::from_consistent(&[0], &[cell])
-}
 
 /// Adds the insertion of the point at a cell that is active and whose point is not required.
 fn add_at(
@@ -29,7 +20,7 @@ fn add_at(
     ensures { OnOk result (kinds.new.items ≡ kinds.old.items ++ insertion_at active required cell) }
 {
     if active.has(cell) && !required.has(cell) {
-        kinds.push(Kind::Insert(point_at(cell)))?;
+        kinds.push(Kind::Insert(Gridded::point_at(cell)))?;
     }
     Ok(())
 }

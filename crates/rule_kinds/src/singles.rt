@@ -1,6 +1,5 @@
 ghost use Rattle.std.specs.Prelude.{◌≡◌, IfOk};
-ghost use Rattle.gridded.specs.Small.{point_at};
-ghost use Rattle.tiling_core.specs.Roots.{only_cell, unit_tiling, point_tiling};
+ghost use Rattle.tiling_core.specs.Roots.{unit_tiling, point_tiling};
 
 use gridded::{Cell, Gridded};
 use sequences::Sequence;
@@ -9,14 +8,6 @@ use tiling_core::Tiling;
 
 /// The cell of a grid of one column and one row.
 const CORNER: Cell = Cell { x: 0, y: 0 };
-
-/// The pattern of one point in the corner.
-#[tactic(auto, using(crate::proofs::Joined::cornered))]
-fn corner_point() -> Gridded
-    ensures { result ≡ point_at only_cell }
-{
-    Gridded::from_consistent(&[0], &[CORNER])
-}
 
 /// The unit tiling.
 #[tactic(auto, using(crate::proofs::Joined::cornered))]
@@ -31,13 +22,11 @@ pub(crate) fn unit_tiling(alloc: Global) -> Result<Tiling, AllocError>
 pub(crate) fn point_tiling(alloc: Global) -> Result<Tiling, AllocError>
     ensures { IfOk result (λ t. t ≡ point_tiling) }
 {
-    let rising = Gridded::from_consistent(&[0, 1], &[CORNER, CORNER]);
-    let falling = Gridded::from_consistent(&[1, 0], &[CORNER, CORNER]);
     let mut obstructions = Vec::new(alloc);
-    obstructions.push(rising)?;
-    obstructions.push(falling)?;
+    obstructions.push(Gridded::rising(CORNER, CORNER))?;
+    obstructions.push(Gridded::falling(CORNER, CORNER))?;
     let mut patterns = Vec::new(alloc);
-    patterns.push(corner_point())?;
+    patterns.push(Gridded::point_at(CORNER))?;
     let mut lists = Vec::new(alloc);
     lists.push(Sequence::of(patterns))?;
     Tiling::in_grid(1, 1, obstructions, lists)
