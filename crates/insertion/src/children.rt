@@ -12,7 +12,7 @@ use tiling_core::Tiling;
 
 /// The tiling without a pattern that lies in its grid, and that with it. The refusal is want of memory.
 #[tactic(auto, using(rule_kinds::proofs::Joined::single))]
-pub fn children(
+pub fn inserted(
     alloc: Global,
     tiling: &Tiling,
     pattern: Gridded,
@@ -43,5 +43,5 @@ pub fn build(alloc: Global, tiling: &Tiling, kind: &Kind) -> Result<Vec<Tiling>,
     if !applies(alloc, tiling, kind)? {
         return Err(RawFault::NotApplicable);
     }
-    Ok(children(alloc, tiling, *pattern)?)
+    Ok(inserted(alloc, tiling, *pattern)?)
 }

@@ -7,5 +7,5 @@ mod required;
 #[cfg(test)]
 mod tests;
 
-pub use children::{build, children};
+pub use children::{build, inserted};
 pub use listing::arguments;

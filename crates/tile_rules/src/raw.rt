@@ -5,7 +5,7 @@ ghost use Rattle.rule_kinds.specs.Built.{applies_now, IsRawRefused};
 ghost use Rattle.rule_kinds.specs.Children.{raw_children};
 
 use gridded::Gridded;
-use insertion::children;
+use insertion::inserted;
 use rule_kinds::{Kind, RawFault, also, applies};
 use std::alloc::{AllocError, Global};
 use tiling_core::Tiling;
@@ -29,7 +29,7 @@ pub fn children_of(alloc: Global, tiling: &Tiling, kind: &Kind) -> Result<Vec<Ti
     ensures { IfOk result (λ children. children.items ≡ raw_children tiling.now kind.now) }
 {
     match kind {
-        Kind::Insert(pattern) => children(alloc, tiling, *pattern),
+        Kind::Insert(pattern) => inserted(alloc, tiling, *pattern),
         Kind::Infer(patterns) => inferred(alloc, tiling, patterns.as_slice()),
         _ => Ok(Vec::new(alloc)),
     }
