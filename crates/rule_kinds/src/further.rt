@@ -31,11 +31,7 @@ pub fn also(
 
 /// The tiling with a further list of one pattern, which lies in its grid. The refusal is want of memory.
 #[tactic(auto, using(crate::proofs::Joined::single))]
-pub fn requiring(
-    alloc: Global,
-    tiling: &Tiling,
-    pattern: Gridded,
-) -> Result<Tiling, AllocError>
+pub fn requiring(alloc: Global, tiling: &Tiling, pattern: Gridded) -> Result<Tiling, AllocError>
     requires { in_grid tiling.now pattern ≡ true }
     ensures { IfOk result (λ t. t ≡ also tiling.now [] ((pattern ∷ []) ∷ [])) }
 {

@@ -1,8 +1,7 @@
 ghost use Rattle.std.specs.Prelude.{◌≡◌, ◌<◌, IfOk, All, length};
 
 use crate::{
-    Direction, Kind, Pointed, RawFault, TileRule, check_rule, raw_children, root_raw,
-    rules_count,
+    Direction, Kind, Pointed, RawFault, TileRule, check_rule, raw_children, root_raw, rules_count,
 };
 use gridded::{Cell, Gridded, GriddedFault};
 use perm_core::Perm;
@@ -87,7 +86,10 @@ fn kinds_that_do_not_apply_to_the_root(rt: HostRuntime) -> Result<(), Fail> {
     let placed = placing(alloc, point(alloc)?)?;
     let kinds = vec![in alloc; Kind::Unit, Kind::Point, Kind::Void, far, placed]?;
     for kind in &kinds {
-        assert_eq!(rt; raw_children(alloc, &root, kind), Err(RawFault::NotApplicable));
+        assert_eq!(rt;
+            raw_children(alloc, &root, kind),
+            Err(RawFault::NotApplicable)
+        );
     }
     Ok(())
 }
@@ -168,7 +170,10 @@ fn insertions_follow_by_their_traces(rt: HostRuntime) -> Result<(), Fail> {
     let alloc = rt.alloc();
     let whole = vec![in alloc; Step::Min, FIRST_COLUMN, FIRST_ROW]?;
     assert_eq!(rt; check_rule(alloc, &insertion(alloc, whole)?), Ok(true));
-    assert_eq!(rt; check_rule(alloc, &insertion(alloc, Vec::new(alloc))?), Ok(false));
+    assert_eq!(rt;
+        check_rule(alloc, &insertion(alloc, Vec::new(alloc))?),
+        Ok(false)
+    );
     Ok(())
 }
 
