@@ -75,7 +75,7 @@ stands-ranked : (ls : List ℕ) (a b : List Point) (x : Point) → stands_in (le
 stands-ranked ls [] b x = own-cell x.cell
 stands-ranked ls (y ∷ a) b x = stands-ranked ls a b x
 
-length-standard : (c : List Point) → length (closed_up c) ≡ length c
+pub length-standard : (c : List Point) → length (closed_up c) ≡ length c
 length-standard c = length-map c (ranked (letters_of c))
 
 -- what a member gives
@@ -227,7 +227,7 @@ pub false-from : (b : Bool) → (b ≡ true → ⊥) → b ≡ false
 false-from true f = absurd (f refl)
 false-from false f = refl
 
-not-both : (b : Bool) → not b ≡ true → b ≡ true → ⊥
+pub not-both : (b : Bool) → not b ≡ true → b ≡ true → ⊥
 not-both true e f = cc
 not-both false e f = cc
 
@@ -295,11 +295,10 @@ module _ (t : Tiles) (m : List Point) (gridded : is_gridded m ≡ true) (belongs
       (list_all-IsPart (λ c. nat_lt c.x t.width && nat_lt c.y t.height) (IsPart-map cell_of k) in_grid)
       (both_true (list_all (λ p. not (holds d p)) t.obstructions) (list_all (λ ps. list_any (λ p. holds d p) ps) t.requirements) (all-pass (λ p. not (holds d p)) t.obstructions (λ p h. not_false (holds d p) (not_held d p k h))) e)
 
-  -- a member is reached where there is one
-  pub reached-from_member : reaches t t.requirements [] ≡ true
-  reached-from_member = reached t m allowed t.requirements [] (IsPart-nothing m) met (λ d a b e. part_belongs d b e)
+  -- a member is reached from each part of one, closed up
+  pub reached-part : (c : List Point) → IsPart c m → reaches t t.requirements (closed_up c) ≡ true
+  reached-part c k = reached t m allowed t.requirements c k met (λ d a b e. part_belongs d b e)
 
-  -- and one that holds p where one holds it
-  pub glued-from_member : (p : List Point) → Holds m p → glues t.obstructions p (λ h. reaches t t.requirements h) (cells_of p) 0 [] ≡ true
-  glued-from_member p h =
-      glued-whole t.obstructions p m [] (λ g. reaches t t.requirements g) allowed (λ c a b k. reached t m allowed t.requirements c b met (λ d q r e. part_belongs d r e)) h (IsPart-nothing m)
+  -- and so where there is one
+  pub reached-from_member : reaches t t.requirements [] ≡ true
+  reached-from_member = reached-part [] (IsPart-nothing m)

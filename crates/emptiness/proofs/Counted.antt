@@ -1,7 +1,7 @@
 -- The search decides whether there is a member, and whether one holds a pattern.
 use Rattle.std.proofs.Common.{◌≡◌, ℕ, zero, suc, ◌+◌, ◌<◌, Bool, true, false, List, [], ◌∷◌, length, refl, sym, ◌∙◌, subst, arith}
 use Rattle.std.specs.Prelude.{◌&&◌, ◌↔◌, not, map, nat_lt, Decides, IsTrue}
-use Rattle.std.specs.List.{filter, list_all, AllByRecursion, range_with_len}
+use Rattle.std.specs.List.{filter, list_all, list_any, AllByRecursion, range_with_len}
 use Rattle.std.proofs.lemmas.Bool.Decides.{nat_tests}
 use Rattle.patterns.specs.Parts.{IsIn}
 use Rattle.patterns.specs.Parts.IsIn.{here}
@@ -10,16 +10,19 @@ use Rattle.patterns.proofs.Booleans.{and_true, both_true}
 use Rattle.patterns.proofs.Lists.{IsIn-map, IsIn-filter, from_IsIn-filter}
 use Rattle.patterns.proofs.NoRepeat.{IsIn-flat_map, IsIn-words, in_range_with_len}
 use Rattle.gridded.specs.declared.cell.Cell.{Cell}
-use Rattle.gridded.specs.Grids.{Point, letter_of, cells_in, points_in, gridded_of, is_gridded, is_consistent}
+use Rattle.gridded.specs.Grids.{Point, letter_of, cells_in, points_in, gridded_of, is_gridded, is_consistent, IsGridded, holds, same_cell}
 use Rattle.gridded.specs.Orders.{cells_of}
 use Rattle.tiling_core.specs.Tiles.{Tiles, is_member, count}
 use Rattle.gridded.specs.Places.{fits_grid}
 use Rattle.tiling_core.specs.Measures.{weight}
 use Rattle.emptiness.specs.Emptiness.{IsEmpty, ShortLength, MembersWithinWeight, IsHeldByMember}
-use Rattle.emptiness.specs.Glueing.{glues, reaches}
-use Rattle.emptiness.proofs.Inserted.{IsPlaced}
-use Rattle.emptiness.proofs.Complete.{reached-from_member, glued-from_member, false-from}
-use Rattle.emptiness.proofs.Sound.{reaches-sound, glues-sound, Found}
+use Rattle.emptiness.specs.Glueing.{reaches}
+use Rattle.emptiness.proofs.Inserted.{IsPlaced, placed}
+use Rattle.emptiness.proofs.Complete.{reached-from_member, false-from, one-passes, each-passes, not-both}
+use Rattle.emptiness.proofs.Sound.{reaches-sound, Found}
+use Rattle.gridded.proofs.Holding.{Holds-trans}
+use Rattle.emptiness.proofs.Held.{reached-from_held}
+use Rattle.patterns.proofs.Occurrences.{occurs_decides}
 
 in-cells : (w h : ℕ) (c : Cell) → (nat_lt c.x w && nat_lt c.y h) ≡ true → IsIn c (cells_in w h)
 in-cells w h c e =
@@ -100,14 +103,23 @@ empty_decides t = (
     none zero h = refl
     none (suc n) h = absurd (h (omega arith))
 
-pub held_decides : (t : Tiles) (p : List Point) → Decides (glues t.obstructions p (λ h. reaches t t.requirements h) (cells_of p) 0 []) (IsHeldByMember t p)
-held_decides t p = (
-  (λ e. let f = glues-sound t p (λ h. reaches t t.requirements h) (weight t) (λ g h k. reaches-sound t t.requirements g h k) (cells_of p) 0 [] nothing-placed e in
-      let g = f.of_g in
+-- a member is reached from a pattern exactly where one holds it
+pub held_decides : (t : Tiles) (p : List Point) → IsGridded p → Decides (reaches t t.requirements p) (IsHeldByMember t p)
+held_decides t p k = (
+  (λ e. let g = reaches-sound t t.requirements p (placed p k) e in
       let fits = (and_true (fits_grid t.width t.height g.found) _ g.belongs).0 in
-      record { size = length g.found; member = g.found; listed = placed-listed t.width t.height g.found g.placed fits; belongs = g.belongs; held = f.with_p }),
-  (λ h. glued-from_member t h.member (listed-gridded t.width t.height h.size h.member h.listed) h.belongs p h.held),
+      record { size = length g.found; member = g.found; listed = placed-listed t.width t.height g.found g.placed fits; belongs = g.belongs; held = g.held }),
+  (λ h. reached-from_held t h.member p (listed-gridded t.width t.height h.size h.member h.listed) h.belongs k h.held),
 )
+
+-- where the empty pattern holds an obstruction, nothing is reached
+pub nothing_reached : (t : Tiles) → list_any (λ p. holds [] p) t.obstructions ≡ true → reaches t t.requirements [] ≡ false
+nothing_reached t e = false-from (reaches t t.requirements []) (λ r.
+    let f = reaches-sound t t.requirements [] nothing-placed r in
+    let w = one-passes (λ p. holds [] p) t.obstructions e in
+    let long = (occurs_decides letter_of same_cell f.found w.0).1 (Holds-trans f.found [] w.0 f.held ((occurs_decides letter_of same_cell [] w.0).0 w.2)) in
+    let avoided = (and_true (list_all (λ p. not (holds f.found p)) t.obstructions) _ (and_true (fits_grid t.width t.height f.found) _ f.belongs).1).0 in
+    not-both (holds f.found w.0) (each-passes (λ p. not (holds f.found p)) w.1 avoided) long)
 
 pub empty_answer : (t : Tiles) (r : Bool) → r ≡ reaches t t.requirements [] → IsTrue (not r) ↔ IsEmpty t
 empty_answer t r e = (

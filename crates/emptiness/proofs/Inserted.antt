@@ -176,9 +176,12 @@ IsPlaced-inserted i l c g h low fits =
       consistent = consistent-inserted i l c g ∙ both_true (fits_at i l c g) (is_consistent g) fits h.consistent;
     }
 
+pub placed : (g : List Point) → IsGridded g → IsPlaced g
+placed g h = record { below = by_recursion (length g) g h.below; distinct = from_is_true _ h.distinct; consistent = from_is_true _ h.consistent }
+
 pub IsGridded-inserted : (i l : ℕ) (c : Cell) (g : List Point) → IsGridded g → length g < 9 → l ≤ length g → fits_at i l c g ≡ true → IsGridded (inserted i l c g)
 IsGridded-inserted i l c g h few low fits =
-    let k = IsPlaced-inserted i l c g (record { below = by_recursion (length g) g h.below; distinct = from_is_true _ h.distinct; consistent = from_is_true _ h.consistent }) low fits in record {
+    let k = IsPlaced-inserted i l c g (placed g h) low fits in record {
       short = omega (arith, length-inserted i l c g);
       below = All-from_recursion (λ (p : Point). p.letter < length (inserted i l c g)) (inserted i l c g) k.below;
       distinct = is_true _ k.distinct;
@@ -244,7 +247,7 @@ stands-as-raised l p (q ∷ g) = both_true (stand_alike (raised_letter l p.lette
 own-cell : (c : Cell) → ((c.x == c.x) && (c.y == c.y)) ≡ true
 own-cell c = both_true (c.x == c.x) (c.y == c.y) ((Decides-eqb c.x c.x).1 refl) ((Decides-eqb c.y c.y).1 refl)
 
-match-raised : (l : ℕ) (g : List Point) → is_match letter_of same_cell (map (raised l) g) g ≡ true
+pub match-raised : (l : ℕ) (g : List Point) → is_match letter_of same_cell (map (raised l) g) g ≡ true
 match-raised l [] = refl
 match-raised l (p ∷ g) =
     both_true (same_cell (raised l p) p) (stands_as letter_of same_cell (raised l p) p (map (raised l) g) g && is_match letter_of same_cell (map (raised l) g) g) (own-cell p.cell)

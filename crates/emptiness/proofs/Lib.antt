@@ -4,5 +4,9 @@ pub mod Standard
 pub mod Steps
 pub mod Complete
 pub mod Sound
+pub mod Held
+pub mod Untouched
 pub mod Counted
 pub mod SmallPatterns
+pub mod NoMembers
+pub mod Inferring

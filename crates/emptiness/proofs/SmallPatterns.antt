@@ -20,15 +20,15 @@ use Rattle.gridded.specs.Orders.{cells_of, gridded_eq, gridded_cmp}
 use Rattle.gridded.specs.OrderLaws.{gridded_total, gridded_exact, gridded_eq_decides}
 use Rattle.sequences.specs.Ascending.{in_order}
 use Rattle.sequences.proofs.InOrder.{All-in_order, list_all-in_order, in_order_ascends}
-use Rattle.gridded.proofs.SmallFits.{consistent-rising, consistent-falling}
+use Rattle.gridded.proofs.SmallFits.{consistent-rising, consistent-falling, fit-point, fit-rising, fit-falling}
 use Rattle.tiling_core.specs.Tiles.{Tiles}
 use Rattle.gridded.specs.Small.{point_at, rising, falling}
 use Rattle.tiling_core.specs.Patterns.{forbids, active_cells}
-use Rattle.emptiness.specs.Glueing.{glues, reaches}
+use Rattle.emptiness.specs.Glueing.{reaches}
 use Rattle.emptiness.specs.Candidates.{pairs_of, candidates_with, candidates_of, is_unheld}
 use Rattle.emptiness.specs.Emptiness.{IsInferable, IsInferredOf, IsHeldByMember}
 use Rattle.emptiness.proofs.Inserted.{IsPlaced}
-use Rattle.emptiness.proofs.Complete.{one-passes, some-passes, each-passes, all-pass, false-from}
+use Rattle.emptiness.proofs.Complete.{one-passes, some-passes, each-passes, all-pass, false-from, not-both}
 use Rattle.emptiness.proofs.Counted.{placed-listed, held_decides}
 
 -- ---- small gridded permutations
@@ -115,22 +115,18 @@ letters-below : (w h n : ℕ) (p : List Point) → AllByRecursion (λ x. IsIn x 
 letters-below w h n [] k = tt
 letters-below w h n (x ∷ p) k = (letter-below w h n x k.0, letters-below w h n p k.1)
 
-not-both : (b : Bool) → not b ≡ true → b ≡ true → ⊥
-not-both true e f = cc
-not-both false e f = cc
-
-unheld_tells : (t : Tiles) (p : List Point) → is_unheld t p ≡ true → ((o : List Point) → IsIn o t.obstructions → ¬ (Holds p o)) × (¬ (IsHeldByMember t p))
-unheld_tells t p e =
-    let k = and_true (not (list_any (λ o. holds p o) t.obstructions)) (not (glues t.obstructions p (λ h. reaches t t.requirements h) (cells_of p) 0 [])) e in (
+unheld_tells : (t : Tiles) (p : List Point) → IsGridded p → is_unheld t p ≡ true → ((o : List Point) → IsIn o t.obstructions → ¬ (Holds p o)) × (¬ (IsHeldByMember t p))
+unheld_tells t p g e =
+    let k = and_true (not (list_any (λ o. holds p o) t.obstructions)) (not (reaches t t.requirements p)) e in (
       (λ o m h. not-both (list_any (λ q. holds p q) t.obstructions) k.0 (some-passes (λ q. holds p q) m ((occurs_decides letter_of same_cell p o).1 h))),
-      (λ h. not-both (glues t.obstructions p (λ g. reaches t t.requirements g) (cells_of p) 0 []) k.1 ((held_decides t p).1 h)),
+      (λ h. not-both (reaches t t.requirements p) k.1 ((held_decides t p g).1 h)),
     )
 
-unheld_from : (t : Tiles) (p : List Point) → ((o : List Point) → IsIn o t.obstructions → ¬ (Holds p o)) → ¬ (IsHeldByMember t p) → is_unheld t p ≡ true
-unheld_from t p f h =
-    both_true (not (list_any (λ o. holds p o) t.obstructions)) (not (glues t.obstructions p (λ g. reaches t t.requirements g) (cells_of p) 0 []))
+unheld_from : (t : Tiles) (p : List Point) → IsGridded p → ((o : List Point) → IsIn o t.obstructions → ¬ (Holds p o)) → ¬ (IsHeldByMember t p) → is_unheld t p ≡ true
+unheld_from t p g f h =
+    both_true (not (list_any (λ o. holds p o) t.obstructions)) (not (reaches t t.requirements p))
     (not_false (list_any (λ o. holds p o) t.obstructions) (false-from (list_any (λ o. holds p o) t.obstructions) (λ e. let w = one-passes (λ o. holds p o) t.obstructions e in f w.0 w.1 ((occurs_decides letter_of same_cell p w.0).0 w.2))))
-    (not_false (glues t.obstructions p (λ g. reaches t t.requirements g) (cells_of p) 0 []) (false-from (glues t.obstructions p (λ g. reaches t t.requirements g) (cells_of p) 0 []) (λ e. h ((held_decides t p).0 e))))
+    (not_false (reaches t t.requirements p) (false-from (reaches t t.requirements p) (λ e. h ((held_decides t p g).0 e))))
 
 in-two : {X : Type 0} (P : X → Type 0) (a b : X) → P a → P b → (x : X) → IsIn x (a ∷ b ∷ []) → P x
 in-two P a b h k _ here = h
@@ -141,9 +137,14 @@ in-one : {X : Type 0} (P : X → Type 0) (a : X) → P a → (x : X) → IsIn x 
 in-one P a h _ here = h
 in-one P a h x (later _ m) = elim m [ ]
 
+candidate-gridded : (cells : List Cell) {p : List Point} → IsCandidate cells p → IsGridded p
+candidate-gridded cells (alone c h) = (fit-point c).gridded
+candidate-gridded cells (up c d h k l m) = (fit-rising c d l m).gridded
+candidate-gridded cells (down c d h k l m) = (fit-falling c d l m).gridded
+
 candidate-inferable : (t : Tiles) {p : List Point} → IsCandidate (active_cells t) p → is_unheld t p ≡ true → IsInferable t p
 candidate-inferable t (alone c h) e =
-    let u = unheld_tells t (point_at c) e in record {
+    let u = unheld_tells t (point_at c) (fit-point c).gridded e in record {
       small = inl refl;
       listed = placed-listed t.width t.height (point_at c) (placed-point c) (both_true (nat_lt c.x t.width && nat_lt c.y t.height) true (active-in_grid t c h) refl);
       active = in-one (λ d. IsIn d (active_cells t)) c h;
@@ -151,7 +152,7 @@ candidate-inferable t (alone c h) e =
       unheld = u.1;
     }
 candidate-inferable t (up c d h k l m) e =
-    let u = unheld_tells t (rising c d) e in record {
+    let u = unheld_tells t (rising c d) (fit-rising c d l m).gridded e in record {
       small = inr refl;
       listed = placed-listed t.width t.height (rising c d) (placed-rising c d l m) (both_true (nat_lt c.x t.width && nat_lt c.y t.height) (nat_lt d.x t.width && nat_lt d.y t.height && true) (active-in_grid t c h) (both_true (nat_lt d.x t.width && nat_lt d.y t.height) true (active-in_grid t d k) refl));
       active = in-two (λ x. IsIn x (active_cells t)) c d h k;
@@ -159,7 +160,7 @@ candidate-inferable t (up c d h k l m) e =
       unheld = u.1;
     }
 candidate-inferable t (down c d h k l m) e =
-    let u = unheld_tells t (falling c d) e in record {
+    let u = unheld_tells t (falling c d) (fit-falling c d l m).gridded e in record {
       small = inr refl;
       listed = placed-listed t.width t.height (falling c d) (placed-falling c d l m) (both_true (nat_lt c.x t.width && nat_lt c.y t.height) (nat_lt d.x t.width && nat_lt d.y t.height && true) (active-in_grid t c h) (both_true (nat_lt d.x t.width && nat_lt d.y t.height) true (active-in_grid t d k) refl));
       active = in-two (λ x. IsIn x (active_cells t)) c d h k;
@@ -246,8 +247,9 @@ inferred_in_order t cells all found patterns a b c d = rw (d, c, b, a) (record {
   exact = λ p. (
     (λ m. let n = from_IsIn-filter (λ q. is_unheld t q) (candidates_of (active_cells t)) (ordered-adds_none (filter (λ q. is_unheld t q) (candidates_of (active_cells t))) p m) in
         candidate-inferable t (candidates_tell (active_cells t) p n.0) n.1),
-    (λ h. ordered-keeps (filter (λ q. is_unheld t q) (candidates_of (active_cells t))) p
-        (IsIn-filter (λ q. is_unheld t q) (candidate_listed (active_cells t) (small-candidate t p h.small h.listed h.active)) (unheld_from t p h.no_obstruction h.unheld))),
+    (λ h. let small = small-candidate t p h.small h.listed h.active in
+        ordered-keeps (filter (λ q. is_unheld t q) (candidates_of (active_cells t))) p
+        (IsIn-filter (λ q. is_unheld t q) (candidate_listed (active_cells t) small) (unheld_from t p (candidate-gridded (active_cells t) small) h.no_obstruction h.unheld))),
   );
 })
 

@@ -49,27 +49,22 @@ pub record Found (t : Tiles) (g : List Point) (n : ℕ) : Type 0 where
 abbrev longer : {t : Tiles} {g : List Point} (m n : ℕ) → m ≤ n → Found t g m → Found t g n
 longer m n h f = record { found = f.found; placed = f.placed; belongs = f.belongs; held = f.held; short = omega (arith, f.short) }
 
-pub record FoundWith (t : Tiles) (g p : List Point) (n : ℕ) : Type 0 where
-  pub of_g : Found t g n
-  pub with_p : Holds of_g.found p
-
 module _ (t : Tiles) (p : List Point) (next : List Point → Bool) (w : ℕ) (sound : (g : List Point) → IsPlaced g → next g ≡ true → Found t g (length g + w)) where
   abbrev Next : List Cell → Type 0
-  Next cells = (from : ℕ) (g : List Point) → IsPlaced g → glues t.obstructions p next cells from g ≡ true → FoundWith t g p (length g + length cells + w)
+  Next cells = (from : ℕ) (g : List Point) → IsPlaced g → glues t.obstructions p next cells from g ≡ true → Found t g (length g + length cells + w)
 
-  step : (c : Cell) (cells : List Cell) → Next cells → (g : List Point) → IsPlaced g → (i : ℕ) → glues_at t.obstructions (λ place h. glues t.obstructions p next cells place h) c g i ≡ true → FoundWith t g p (length g + suc (length cells) + w)
+  step : (c : Cell) (cells : List Cell) → Next cells → (g : List Point) → IsPlaced g → (i : ℕ) → glues_at t.obstructions (λ place h. glues t.obstructions p next cells place h) c g i ≡ true → Found t g (length g + suc (length cells) + w)
   step c cells ih g h i e =
-      ⊎_elim {C = FoundWith t g p (length g + suc (length cells) + w)} fallen joined (or_true (falls_on (λ place k. glues t.obstructions p next cells place k) c g i) (joins_at t.obstructions (λ place k. glues t.obstructions p next cells place k) c g i) e)
+      ⊎_elim {C = Found t g (length g + suc (length cells) + w)} fallen joined (or_true (falls_on (λ place k. glues t.obstructions p next cells place k) c g i) (joins_at t.obstructions (λ place k. glues t.obstructions p next cells place k) c g i) e)
     where
       more : ℕ → List Point → Bool
       more place k = glues t.obstructions p next cells place k
 
-      fallen : falls_on (λ place k. glues t.obstructions p next cells place k) c g i ≡ true → FoundWith t g p (length g + suc (length cells) + w)
+      fallen : falls_on (λ place k. glues t.obstructions p next cells place k) c g i ≡ true → Found t g (length g + suc (length cells) + w)
       fallen f =
-          let k = ih (i + 1) g h (and_true (stands_in i c g) (glues t.obstructions p next cells (i + 1) g) f).1 in
-          record { of_g = longer (length g + length cells + w) (length g + suc (length cells) + w) (omega arith) k.of_g; with_p = k.with_p }
+          longer (length g + length cells + w) (length g + suc (length cells) + w) (omega arith) (ih (i + 1) g h (and_true (stands_in i c g) (glues t.obstructions p next cells (i + 1) g) f).1)
 
-      joined : joins_at t.obstructions (λ place k. glues t.obstructions p next cells place k) c g i ≡ true → FoundWith t g p (length g + suc (length cells) + w)
+      joined : joins_at t.obstructions (λ place k. glues t.obstructions p next cells place k) c g i ≡ true → Found t g (length g + suc (length cells) + w)
       joined f =
           let one = one-passes (λ l. joins t.obstructions (λ place k. glues t.obstructions p next cells place k) c g i l) (range_with_len 0 (length g + 1)) f in
           let l = one.0 in
@@ -78,17 +73,12 @@ module _ (t : Tiles) (p : List Point) (next : List Point → Bool) (w : ℕ) (so
           let b = and_true (not (list_any (λ q. holds (inserted i l c g) q) t.obstructions)) (glues t.obstructions p next cells (i + 1) (inserted i l c g)) a.1 in
           let k = ih (i + 1) (inserted i l c g) (IsPlaced-inserted i l c g h (omega arith) a.0) b.1 in
           let long = length-inserted i l c g in
-          record {
-            of_g = record { found = k.of_g.found; placed = k.of_g.placed; belongs = k.of_g.belongs; held = Holds-trans k.of_g.found (inserted i l c g) g k.of_g.held (Holds-inserted i l c g); short = omega (arith, k.of_g.short) };
-            with_p = k.with_p;
-          }
+          record { found = k.found; placed = k.placed; belongs = k.belongs; held = Holds-trans k.found (inserted i l c g) g k.held (Holds-inserted i l c g); short = omega (arith, k.short) }
 
   pub glues-sound : (cells : List Cell) → Next cells
   unfolding glues
   glues-sound [] from g h e =
-      let a = and_true (holds g p) (next g) e in
-      let k = sound g h a.1 in
-      record { of_g = longer (length g + w) (length g + 0 + w) (omega arith) k; with_p = Holds-trans k.found g p k.held ((occurs_decides letter_of same_cell g p).0 a.0) }
+      longer (length g + w) (length g + 0 + w) (omega arith) (sound g h (and_true (holds g p) (next g) e).1)
   glues-sound (c ∷ cells) from g h e =
       let one = one-passes (λ i. glues_at t.obstructions (λ place k. glues t.obstructions p next cells place k) c g i) (range_with_len from (length g + 1 - from)) e in
       step c cells (glues-sound cells) g h one.0 one.2
@@ -108,4 +98,4 @@ reaches-sound t (ps ∷ lists) g h e = go (list_any (λ p. holds g p) ps) (λ k 
         let one = one-passes (λ p. glues t.obstructions p (λ k. reaches t lists k) (cells_of p) 0 g) ps f in
         let k = glues-sound t one.0 (λ q. reaches t lists q) (weight_of lists) ih (cells_of one.0) 0 g h one.2 in
         let small : length one.0 ≤ longest ps = longest_in 0 one.1 in
-        longer (length g + length (cells_of one.0) + weight_of lists) (length g + weight_of (ps ∷ lists)) (omega (arith, sum, length-map one.0 cell_of)) k.of_g
+        longer (length g + length (cells_of one.0) + weight_of lists) (length g + weight_of (ps ∷ lists)) (omega (arith, sum, length-map one.0 cell_of)) k

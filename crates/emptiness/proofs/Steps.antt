@@ -105,3 +105,11 @@ longest-at patterns i p h e = longest_in patterns 0 i p h e
 
 pub still-there : {X : Type 0} (xs ys : List X) (i : ℕ) (x y : X) → xs ≡ ys → x ≡ get_or xs i x → y ≡ x → y ≡ get_or ys i y
 still-there xs ys i x y e f h = h ∙ f ∙ rw (e, sym h) refl
+
+pub and_none : (p q : Bool) → q ≡ false → (p && q) ≡ false
+and_none true q e = e
+and_none false q e = refl
+
+pub neither : (p q : Bool) → p ≡ false → q ≡ false → (p || q) ≡ false
+neither true q e f = e
+neither false q e f = f

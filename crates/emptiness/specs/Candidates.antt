@@ -3,11 +3,10 @@ use Rattle.std.specs.Prelude.{ℕ, Bool, not, ◌&&◌, nat_le, cond, List, [], 
 use Rattle.std.specs.List.{flat_map, range_with_len, list_any}
 use Rattle.gridded.specs.declared.cell.Cell.{Cell}
 use Rattle.gridded.specs.Grids.{Point, holds}
-use Rattle.gridded.specs.Orders.{cells_of}
 use Rattle.tiling_core.specs.Tiles.{Tiles}
 use Rattle.gridded.specs.CellSets.{is_among}
 use Rattle.gridded.specs.Small.{point_at, rising, falling}
-use Rattle.emptiness.specs.Glueing.{glues, reaches}
+use Rattle.emptiness.specs.Glueing.{reaches}
 
 -- a point in c, and right of it one in d
 abbrev pub pairs_of : Cell → Cell → List (List Point)
@@ -22,4 +21,4 @@ candidates_of cells = flat_map (λ c. candidates_with cells c) cells
 
 -- whether p holds no obstruction, and no member holds it
 abbrev pub is_unheld : Tiles → List Point → Bool
-is_unheld t p = not (list_any (λ o. holds p o) t.obstructions) && not (glues t.obstructions p (λ h. reaches t t.requirements h) (cells_of p) 0 [])
+is_unheld t p = not (list_any (λ o. holds p o) t.obstructions) && not (reaches t t.requirements p)

@@ -3,3 +3,5 @@ pub mod Glueing
 pub mod Emptiness
 pub mod Candidates
 pub mod Refused
+pub mod ByCell
+pub mod Inferable

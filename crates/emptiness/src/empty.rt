@@ -3,6 +3,7 @@ ghost use Rattle.tiling_core.specs.Measures.{weight};
 ghost use Rattle.emptiness.specs.Emptiness.{IsEmpty, MembersWithinWeight};
 ghost use Rattle.emptiness.specs.Refused.{IsEmptyRefused};
 
+use crate::by_cell::holds_one;
 use crate::fault::EmptyFault;
 use crate::glueing::reaches;
 use gridded::Gridded;
@@ -11,7 +12,7 @@ use tiling_core::{Tiling, weight};
 
 /// Whether a tiling has no member of any length. Refused is a weight over 6, as Heavy, and nothing else but
 /// want of memory (docs/RULES.md, "Emptiness").
-pub fn is_empty(_alloc: Global, tiling: &Tiling) -> Result<bool, EmptyFault>
+pub fn is_empty(alloc: Global, tiling: &Tiling) -> Result<bool, EmptyFault>
     ensures exact { IfOk result (λ empty. IsTrue empty ↔ IsEmpty tiling.now) }
     ensures light { OnOk result (weight tiling.now ≤ 6) }
     ensures refused { IfErr result (λ fault. IsEmptyRefused tiling.now fault) }
@@ -20,7 +21,12 @@ pub fn is_empty(_alloc: Global, tiling: &Tiling) -> Result<bool, EmptyFault>
     if weight(tiling) > 6 {
         return Err(EmptyFault::Heavy);
     }
-    Ok(!reaches(tiling, &Gridded::from_consistent(&[], &[]), 0))
+    let nothing = Gridded::from_consistent(&[], &[]);
+    if holds_one(&nothing, tiling.obstructions()) {
+        return Ok(true);
+    }
+    let no_index = Vec::new(alloc);
+    Ok(!reaches(tiling, &no_index, &nothing, 0))
 }
 
 /// A tiling that has a member has one whose length is at most its weight.

@@ -1,47 +1,81 @@
-ghost use Rattle.std.specs.Prelude.{◌≡◌, ◌≤◌, ◌<◌, ◌+◌, length, IfOk, OnOk, IfErr, All, filter};
+ghost use Rattle.std.specs.Prelude.{◌≡◌, ◌≤◌, ◌<◌, ◌+◌, nat_le, length, IfOk, OnOk, IfErr, All, filter};
+ghost use Rattle.std.specs.List.{list_any};
+ghost use Rattle.gridded.specs.Grids.{holds};
 ghost use Rattle.tiling_core.specs.Measures.{weight};
 ghost use Rattle.tiling_core.specs.Patterns.{active_cells};
+ghost use Rattle.emptiness.specs.ByCell.{IsByCell};
 ghost use Rattle.emptiness.specs.Candidates.{is_unheld};
 ghost use Rattle.emptiness.specs.Emptiness.{IsInferredOf};
+ghost use Rattle.emptiness.specs.Inferable.{inferred};
 ghost use Rattle.emptiness.specs.Refused.{IsInferRefused};
 
+use crate::by_cell::{At, by_cell, holds_one};
 use crate::candidates::candidates;
 use crate::fault::InferFault;
-use crate::glueing::{glues, holds_one};
-use gridded::Gridded;
+use crate::glueing::reaches;
+use gridded::{Cell, Gridded};
 use sequences::ascending;
 use std::alloc::{AllocError, Global};
 use tiling_core::{Tiling, active, weight};
 
-/// Whether a pattern holds no obstruction, and no member holds it.
-fn is_unheld(tiling: &Tiling, pattern: &Gridded) -> bool
-    requires { length pattern.now + weight tiling.now ≤ 9 }
+/// The patterns of at most two points.
+fn short_ones(alloc: Global, patterns: &[Gridded]) -> Result<Vec<Gridded>, AllocError>
+    ensures { IfOk result (λ short. short.items ≡ filter (λ p. nat_le (length p) 2) patterns.now) }
+{
+    patterns
+        .iter()
+        .filter(|pattern| pattern.len() <= 2)
+        .copied()
+        .collect(alloc)
+}
+
+/// Whether a pattern holds no obstruction, and no member holds it. The caller knows that it holds one of the
+/// short obstructions where it holds any.
+pub(crate) fn is_unheld(tiling: &Tiling, short: &[Gridded], index: &[At], pattern: &Gridded) -> bool
+    requires indexed { IsByCell tiling.now.obstructions index.now }
+    requires shortened { list_any (λ o. holds pattern.now o) short.now ≡ list_any (λ o. holds pattern.now o) tiling.now.obstructions }
+    requires room { length pattern.now + weight tiling.now ≤ 9 }
     ensures { result ≡ is_unheld tiling.now pattern.now }
 {
-    !holds_one(pattern, tiling.obstructions())
-        && !glues(
-            tiling,
-            &Gridded::from_consistent(&[], &[]),
-            pattern,
-            0,
-            0,
-            0,
-        )
+    if holds_one(pattern, short) {
+        return false;
+    }
+    !reaches(tiling, index, pattern, 0)
 }
 
 /// Those of the patterns that hold no obstruction and that no member holds.
-fn unheld(alloc: Global, tiling: &Tiling, patterns: &[Gridded]) -> Result<Vec<Gridded>, AllocError>
+fn unheld(
+    alloc: Global,
+    tiling: &Tiling,
+    index: &[At],
+    patterns: &[Gridded],
+) -> Result<Vec<Gridded>, AllocError>
+    requires indexed { IsByCell tiling.now.obstructions index.now }
     requires light { weight tiling.now ≤ 4 }
     requires small { All (λ p. length p ≤ 2) patterns.now }
     ensures { IfOk result (λ found. found.items ≡ filter (λ p. is_unheld tiling.now p) patterns.now) }
 {
+    let short = short_ones(alloc, tiling.obstructions())?;
     let mut found = Vec::new(alloc);
     for pattern in patterns {
-        if is_unheld(tiling, pattern) {
+        if is_unheld(tiling, &short, index, pattern) {
             found.push(*pattern)?;
         }
     }
     Ok(found)
+}
+
+/// The inferable patterns, where the cells are the active ones.
+fn inferred_over(alloc: Global, tiling: &Tiling, cells: &[Cell]) -> Result<Vec<Gridded>, AllocError>
+    requires light { weight tiling.now ≤ 4 }
+    requires active { cells.now ≡ active_cells tiling.now }
+    ensures exact { IfOk result (λ patterns. IsInferredOf tiling.now patterns.items) }
+    ensures listed { IfOk result (λ patterns. patterns.items ≡ inferred tiling.now) }
+{
+    let index = by_cell(alloc, cells, tiling.obstructions())?;
+    let all = candidates(alloc, cells)?;
+    let found = unheld(alloc, tiling, &index, &all)?;
+    Ok(ascending(found)?.into_vec())
 }
 
 /// The inferable patterns: all gridded permutations of length 1 and 2 over active cells that hold no
@@ -49,6 +83,7 @@ fn unheld(alloc: Global, tiling: &Tiling, patterns: &[Gridded]) -> Result<Vec<Gr
 /// 16 active cells, as Wide, and nothing else but want of memory (docs/RULES.md, "Emptiness").
 pub fn inferred(alloc: Global, tiling: &Tiling) -> Result<Vec<Gridded>, InferFault>
     ensures exact { IfOk result (λ patterns. IsInferredOf tiling.now patterns.items) }
+    ensures listed { IfOk result (λ patterns. patterns.items ≡ inferred tiling.now) }
     ensures light { OnOk result (weight tiling.now ≤ 4) }
     ensures narrow { OnOk result (length (active_cells tiling.now) ≤ 16) }
     ensures refused { IfErr result (λ fault. IsInferRefused tiling.now fault) }
@@ -62,17 +97,6 @@ pub fn inferred(alloc: Global, tiling: &Tiling) -> Result<Vec<Gridded>, InferFau
     if active.count() > 16 {
         return Err(InferFault::Wide);
     }
-    let Ok(cells) = active.cells(alloc) else {
-        return Err(InferFault::Memory);
-    };
-    let Ok(all) = candidates(alloc, &cells) else {
-        return Err(InferFault::Memory);
-    };
-    let Ok(found) = unheld(alloc, tiling, &all) else {
-        return Err(InferFault::Memory);
-    };
-    match ascending(found) {
-        Ok(patterns) => Ok(patterns.into_vec()),
-        Err(_) => Err(InferFault::Memory),
-    }
+    let cells = active.cells(alloc)?;
+    Ok(inferred_over(alloc, tiling, &cells)?)
 }

@@ -4,10 +4,12 @@
 //! another into a gridded permutation, each point at every place or on a point that is there.
 #![tactic(auto)]
 
+mod by_cell;
 mod candidates;
 mod empty;
 mod fault;
 mod glueing;
+mod inferable;
 mod inferral;
 mod insertion;
 #[cfg(test)]
@@ -15,4 +17,5 @@ mod tests;
 
 pub use empty::{is_empty, members_within_weight};
 pub use fault::{EmptyFault, InferFault};
+pub use inferable::is_inferable;
 pub use inferral::inferred;

@@ -1,6 +1,8 @@
 ghost use Rattle.std.specs.Prelude.{◌≡◌, ◌<◌, ◌≤◌, IfOk, length};
 
-use crate::{EmptyFault, InferFault, inferred, is_empty, members_within_weight};
+use crate::{
+    EmptyFault, InferFault, inferred, is_empty, is_inferable, members_within_weight,
+};
 use gridded::{Cell, Gridded, GriddedFault};
 use sequences::Sequence;
 use std::alloc::{AllocError, Global};
@@ -12,6 +14,9 @@ const fn cell(x: u8, y: u8) -> Cell
 {
     Cell { x, y }
 }
+
+/// The two cells of the lower row.
+const ROW: [Cell; 2] = [Cell { x: 0, y: 0 }, Cell { x: 1, y: 0 }];
 
 /// The point in a cell.
 fn point(alloc: Global, x: u8, y: u8) -> Result<Gridded, GriddedFault> {
@@ -146,5 +151,36 @@ fn seventeen_active_cells_are_wide(rt: HostRuntime) -> Result<(), Fail> {
     let alloc = rt.alloc();
     let tiling = one_list(alloc, 5, Vec::new(alloc), point(alloc, 0, 0)?)?;
     assert_eq!(rt; inferred(alloc, &tiling), Err(InferFault::Wide));
+    Ok(())
+}
+
+#[test]
+fn one_of_two_points_with_another(rt: HostRuntime) -> Result<(), Fail> {
+    let alloc = rt.alloc();
+    let mut list = one(alloc, point(alloc, 0, 0)?)?;
+    list.push(point(alloc, 1, 1)?)?;
+    let mut lists = Vec::new(alloc);
+    lists.push(Sequence::of(list))?;
+    lists.push(Sequence::of(one(alloc, point(alloc, 1, 0)?)?))?;
+    let mut obstructions = one(alloc, Gridded::of(alloc, &[0, 1], &ROW)?)?;
+    obstructions.push(Gridded::of(alloc, &[1, 0], &ROW)?)?;
+    let tiling = Tiling::of(alloc, 2, 2, obstructions, lists)?;
+    let patterns = inferred(alloc, &tiling)?;
+    assert_eq!(rt; patterns.len(), 6);
+    assert_eq!(rt; patterns[0], point(alloc, 0, 0)?);
+    assert_eq!(rt; patterns[3], rise(alloc)?);
+    assert_eq!(rt; patterns[4], within(alloc, &[1, 0], cell(0, 0))?);
+    Ok(())
+}
+
+#[test]
+fn one_pattern_where_a_listing_is_wide(rt: HostRuntime) -> Result<(), Fail> {
+    let alloc = rt.alloc();
+    let far = Gridded::of(alloc, &[0, 1], &[cell(0, 0), cell(4, 4)])?;
+    let tiling = one_list(alloc, 5, one(alloc, far)?, point(alloc, 0, 0)?)?;
+    assert!(rt; weight(&tiling) <= 4);
+    assert!(rt; is_inferable(&tiling, &point(alloc, 4, 4)?));
+    assert!(rt; !is_inferable(&tiling, &point(alloc, 3, 3)?));
+    assert!(rt; !is_inferable(&tiling, &far));
     Ok(())
 }

@@ -51,7 +51,7 @@ pub rank-small : (part : List Point) (x : ℕ) → rank (letters_of part) x ≤ 
 rank-small part x = let k : rank (letters_of part) x ≤ length (letters_of part) = count_by-le-length (λ y. nat_lt y x) (letters_of part) in omega (arith, length-map part letter_of)
 
 -- ---- it stands as the part does
-turned : {xs ys : List ℕ} → IsSameOrder xs ys → IsSameOrder ys xs
+pub turned : {xs ys : List ℕ} → IsSameOrder xs ys → IsSameOrder ys xs
 turned h = record { as_many = sym h.as_many; alike = λ i j a b. let k = h.alike i j (omega (arith, h.as_many)) (omega (arith, h.as_many)) in (k.1, k.0) }
 
 pub same_order-closed_up : (part : List Point) → IsSameOrder (letters_of (closed_up part)) (letters_of part)
@@ -90,7 +90,7 @@ closed_up_is_held g part =
     (λ e. holds_from g (closed_up part) (Holds-trans g part (closed_up part) (holds_tells g part e) (Holds-closed_up part part (IsPart-itself part))))
 
 -- ---- it is gridded
-ranks_below : (whole : List ℕ) (part : List Point) → ((p : Point) → IsIn p part → IsIn p.letter whole) → AllByRecursion (λ (p : Point). p.letter < length whole) (map (ranked whole) part)
+pub ranks_below : (whole : List ℕ) (part : List Point) → ((p : Point) → IsIn p part → IsIn p.letter whole) → AllByRecursion (λ (p : Point). p.letter < length whole) (map (ranked whole) part)
 ranks_below whole [] h = tt
 ranks_below whole (p ∷ part) h = (rank-lt-length p.letter (h p here), ranks_below whole part (λ q k. h q (later p k)))
 

@@ -2,17 +2,21 @@ use Rattle.std.proofs.Common.{rules, arith, ◌≡◌, ◌<◌, ◌≤◌, ◌+�
 use Rattle.std.specs.List.{list_any, range_with_len}
 use Rattle.std.proofs.lemmas.List.{length-map, take_all}
 use Rattle.std.proofs.lemmas.List.Folds.{list_any_at}
+use Rattle.patterns.proofs.Booleans.{or_all}
+use Rattle.gridded.specs.declared.cell.Cell.{Cell}
 use Rattle.gridded.specs.Grids.{Point, cell_of, holds}
 use Rattle.gridded.specs.Orders.{cells_of}
-use Rattle.emptiness.specs.Glueing.{reaches, glues, glues_at, joins, onward, corner}
+use Rattle.emptiness.specs.Glueing.{stands_in, reaches, glues, glues_at, falls_on, joins_at, joins, onward, corner}
 use Rattle.emptiness.proofs.Inserted.{length-inserted}
-use Rattle.emptiness.proofs.Steps.{stands-within, any_below-more, any_below-here, any_from_start-more, still-there, glues-end, glues-step, reaches-end, reaches-step, weight-step, longest-at}
+use Rattle.emptiness.proofs.Untouched.{any-there, member-avoiding}
+use Rattle.emptiness.proofs.Steps.{stands-within, any_below-more, any_below-here, any_from_start-more, still-there, glues-end, glues-step, reaches-end, reaches-step, weight-step, longest-at, and_none, neither}
 use Rattle.emptiness.proofs.glueing.+glueing.Goals as goal
+use Rattle.emptiness.proofs.glueing.+glueing.Goals.{glues_at-then-stands_in+else-glues, glues_at-else-stands_in}
 
-pub falls_on-glues-requires : goal.falls_on-glues-requires
-falls_on-glues-requires t c =
+pub glues_at-glues-requires : goal.glues_at-glues-requires
+glues_at-glues-requires t c =
     let there = stands-within c.args.place _ c.args.g.now (sym c.stands_in.ensures ∙ c.if-stands_in.true) in
-    (search rules, (omega arith, (omega arith, (omega arith, omega arith))))
+    (search rules, (c.requires.indexed, (c.requires.avoids, (omega arith, (omega arith, (omega arith, omega arith))))))
 
 pub glues-returns-then-holds : goal.glues-returns-then-holds
 glues-returns-then-holds t c =
@@ -52,24 +56,49 @@ glues-returns t c =
     sym (glues-step c.args.tiling.now.obstructions c.args.pattern.now N (cells_of c.args.pattern.now) c.args.taken c.args.from c.args.g.now not_all
     ∙ subst (λ (m : ℕ). list_any F (range_with_len c.args.from (m - c.args.from)) ≡ false) done c.loop-place.invariant)
 
+pub joins-holds_one_at-requires-clause-there : goal.joins-holds_one_at-requires-clause-there
+joins-holds_one_at-requires-clause-there t c =
+    let same : c.obstructions.result.now ≡ c.args.tiling.now.obstructions = c.obstructions.ensures.value in
+    any-there _ _ _ c.args.g.now c.inserted-longer.result c.obstructions.result.now c.inserted-longer.ensures (rw same c.requires.avoids)
+
 pub joins-glues-requires : goal.joins-glues-requires
 joins-glues-requires t c =
     let longer : length c.inserted-longer.result ≡ length c.args.g.now + 1 = ap (λ s. length s) c.inserted-longer.ensures ∙ length-inserted _ _ _ c.args.g.now ∙ omega arith in
-    (search rules, (omega arith, (omega arith, (omega arith, omega arith))))
+    let avoids = subst (λ os. list_any (λ p. holds c.inserted-longer.result p) os ≡ false) c.obstructions.ensures.value (sym c.holds_one_at.ensures ∙ c.if-holds_one_at.false) in
+    (search rules, (c.requires.indexed, (avoids, (omega arith, (omega arith, (omega arith, omega arith))))))
 
-pub joins_at-returns-then-joins : goal.joins_at-returns-then-joins
-joins_at-returns-then-joins t c =
-    let F : ℕ → Bool = λ m. joins c.args.tiling.now.obstructions (onward c.args.tiling.now c.args.pattern.now c.args.list c.args.taken) (get_or (cells_of c.args.pattern.now) c.args.taken corner) c.args.g.now c.args.place m in
-    let many : length c.cells.result.now ≡ length c.args.g.now = ap (λ s. length s) c.cells.ensures.value ∙ length-map c.args.g.now cell_of in
-    sym (any_below-here F 0 (length c.args.g.now + 1) c.loop-letter.letter (omega arith) (omega arith) (sym c.joins.ensures ∙ c.if-joins.true))
+pub glues_at-returns-then-joins : goal.glues_at-returns-then-joins
+glues_at-returns-then-joins t c =
+    let N : ℕ → List Point → Bool = onward c.args.tiling.now c.args.pattern.now c.args.list c.args.taken in
+    let C : Cell = get_or (cells_of c.args.pattern.now) c.args.taken corner in
+    let F : ℕ → Bool = λ m. joins c.args.tiling.now.obstructions N C c.args.g.now c.args.place m in
+    let many : length c.cells-2.result.now ≡ length c.args.g.now = ap (λ s. length s) c.cells-2.ensures.value ∙ length-map c.args.g.now cell_of in
+    let at = any_below-here F 0 (length c.args.g.now + 1) c.loop-letter.letter (omega arith) (omega arith) (sym c.joins.ensures ∙ c.if-joins.true) in
+    sym (rw at (or_all (falls_on N C c.args.g.now c.args.place)))
 
-pub joins_at-loop-letter-preserved : goal.joins_at-loop-letter-preserved
-joins_at-loop-letter-preserved t c =
+pub glues_at-loop-letter-preserved : goal.glues_at-loop-letter-preserved
+glues_at-loop-letter-preserved t c =
     let F : ℕ → Bool = λ m. joins c.args.tiling.now.obstructions (onward c.args.tiling.now c.args.pattern.now c.args.list c.args.taken) (get_or (cells_of c.args.pattern.now) c.args.taken corner) c.args.g.now c.args.place m in
     any_from_start-more F c.loop-letter.letter c.loop-letter.invariant (sym c.joins.ensures ∙ c.if-joins.false)
 
+pub glues_at-returns : goal.glues_at-returns
+glues_at-returns t c =
+    let O : List (List Point) = c.args.tiling.now.obstructions in
+    let N : ℕ → List Point → Bool = onward c.args.tiling.now c.args.pattern.now c.args.list c.args.taken in
+    let C : Cell = get_or (cells_of c.args.pattern.now) c.args.taken corner in
+    let F : ℕ → Bool = λ m. joins O N C c.args.g.now c.args.place m in
+    let many : length c.cells-2.result.now ≡ length c.args.g.now = ap (λ s. length s) c.cells-2.ensures.value ∙ length-map c.args.g.now cell_of in
+    let done : c.loop-letter.letter ≡ length c.args.g.now + 1 = omega arith in
+    let none : joins_at O N C c.args.g.now c.args.place ≡ false = subst (λ (m : ℕ). list_any F (range_with_len 0 m) ≡ false) done c.loop-letter.invariant in
+    let at : c.stands_in.result ≡ stands_in c.args.place C c.args.g.now = c.stands_in.ensures ∙ ap (λ cs. stands_in c.args.place (get_or cs c.args.taken corner) c.args.g.now) c.cells.ensures.value in
+    let falls : falls_on N C c.args.g.now c.args.place ≡ false = elim c.if-stands_in.branch [
+      | glues_at-then-stands_in+else-glues w ↦ and_none (stands_in c.args.place C c.args.g.now) (N (c.args.place + 1) c.args.g.now) (sym w.glues.ensures ∙ w.if-glues.false)
+      | glues_at-else-stands_in w ↦ rw (sym at ∙ w.if-stands_in.false) refl
+    ] in
+    sym (neither (falls_on N C c.args.g.now c.args.place) (joins_at O N C c.args.g.now c.args.place) falls none)
+
 pub reaches-returns-then-list-requirements : goal.reaches-returns-then-list-requirements
-reaches-returns-then-list-requirements t c = c.member.ensures.value ∙ sym (reaches-end c.args.tiling.now c.args.tiling.now.requirements c.args.list c.args.g.now (omega (arith, ap (λ s. length s) c.requirements.ensures.value)))
+reaches-returns-then-list-requirements t c = c.belongs.ensures ∙ sym (member-avoiding c.args.tiling.now c.args.g.now c.requires.avoids) ∙ sym (reaches-end c.args.tiling.now c.args.tiling.now.requirements c.args.list c.args.g.now (omega (arith, ap (λ s. length s) c.requirements.ensures.value)))
 
 pub reaches-returns-then-holds_one : goal.reaches-returns-then-holds_one
 reaches-returns-then-holds_one t c =
@@ -83,7 +112,7 @@ reaches-glues-requires t c =
     let inside : c.args.list < length c.args.tiling.now.requirements = omega (arith, ap (λ s. length s) c.requirements.ensures.value) in
     let sum = weight-step c.args.tiling.now.requirements c.args.list c.as_slice-patterns.result.now inside listed in
     let small = longest-at c.as_slice-patterns.result.now c.loop-pattern.pattern-index c.pattern-item.result c.loop-pattern-test.true c.pattern-item.is in
-    (search rules, (omega arith, (omega arith, (omega arith, omega arith))))
+    (search rules, (c.requires.indexed, (c.requires.avoids, (omega arith, (omega arith, (omega arith, omega arith))))))
 
 pub reaches-returns-then-glues : goal.reaches-returns-then-glues
 reaches-returns-then-glues t c =

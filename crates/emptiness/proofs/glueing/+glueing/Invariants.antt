@@ -14,12 +14,6 @@ decreases-glues l = (length l.tiling.now.requirements - l.list) * 60 + (length l
 abbrev pub decreases-glues_at : goal.decreases-glues_at
 decreases-glues_at l = (length l.tiling.now.requirements - l.list) * 60 + (length l.pattern.now - l.taken) * 5 + 3
 
-abbrev pub decreases-falls_on : goal.decreases-falls_on
-decreases-falls_on l = (length l.tiling.now.requirements - l.list) * 60 + (length l.pattern.now - l.taken) * 5 + 2
-
-abbrev pub decreases-joins_at : goal.decreases-joins_at
-decreases-joins_at l = (length l.tiling.now.requirements - l.list) * 60 + (length l.pattern.now - l.taken) * 5 + 2
-
 abbrev pub decreases-joins : goal.decreases-joins
 decreases-joins l = (length l.tiling.now.requirements - l.list) * 60 + (length l.pattern.now - l.taken) * 5 + 1
 
@@ -31,6 +25,6 @@ abbrev pub invariant-glues-loop-place : goal.invariant-glues-loop-place
 invariant-glues-loop-place l =
     list_any (λ i. glues_at l.tiling.obstructions (onward l.tiling l.pattern l.list l.taken) (slice_index_or (cells_of l.pattern) l.taken corner) l.g i) (range_with_len l.from (l.place - l.from)) ≡ false
 
-abbrev pub invariant-joins_at-loop-letter : goal.invariant-joins_at-loop-letter
-invariant-joins_at-loop-letter l =
+abbrev pub invariant-glues_at-loop-letter : goal.invariant-glues_at-loop-letter
+invariant-glues_at-loop-letter l =
     list_any (λ m. joins l.tiling.obstructions (onward l.tiling l.pattern l.list l.taken) (slice_index_or (cells_of l.pattern) l.taken corner) l.g l.place m) (range_with_len 0 l.letter) ≡ false
