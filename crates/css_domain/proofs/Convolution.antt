@@ -8,10 +8,10 @@ use Rattle.std.proofs.lemmas.List.Elements.{filter-append}
 use Rattle.std.proofs.lemmas.List.Concat.{flat_map-cons}
 use Rattle.std.proofs.Math.Nat.{mul-zero, mul-add}
 use Rattle.patterns.specs.Parts.{IsIn}
-use Rattle.patterns.specs.Parts.IsIn.{here, later}
+use Rattle.lists.specs.Members.IsIn.{here, later}
 use Rattle.patterns.specs.Words.{words}
 use Rattle.patterns.proofs.NoRepeat.{IsIn-range_with_len}
-use Rattle.patterns.proofs.Products.{product_count}
+use Rattle.lists.specs.Products.{product_count}
 use Rattle.css_domain.specs.Shapes.{product_at, combine}
 use Rattle.css_domain.specs.declared.shape.Shape.TheVariants.{Product}
 use Rattle.css_domain.proofs.Ways.{sum_by_agrees, sum-cons}

@@ -4,7 +4,7 @@ use Rattle.std.specs.Prelude.{IsTrue, map, slice_get, slice_index, Some}
 use Rattle.std.proofs.lemmas.List.{length-map}
 use Rattle.std.proofs.lemmas.Option.{slice_get-map}
 use Rattle.patterns.specs.Parts.{IsIn}
-use Rattle.patterns.specs.Parts.IsIn.{here, later}
+use Rattle.lists.specs.Members.IsIn.{here, later}
 use Rattle.css_domain.specs.Shapes.{combine}
 use Rattle.css_domain.specs.Meanings.{Meaning}
 use Rattle.css_domain.specs.Entries.{Entry, IsNamed, IsLinked, AllHold, AreCounts, NoneOfLength0, class_counts, CountsAreDetermined, ClassCountsCombine}

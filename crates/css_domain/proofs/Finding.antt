@@ -5,8 +5,8 @@ use Rattle.std.specs.List.{list_any, list_all, position_or_len, AllZip}
 use Rattle.std.proofs.lemmas.Bool.{eqb-true}
 use Rattle.std.proofs.lemmas.Bool.Decides.{nat_tests}
 use Rattle.patterns.specs.Parts.{IsIn, NoRepeats}
-use Rattle.patterns.specs.Parts.IsIn.{here, later}
-use Rattle.patterns.specs.Parts.NoRepeats.{no_element, one_more}
+use Rattle.lists.specs.Members.IsIn.{here, later}
+use Rattle.lists.specs.Members.NoRepeats.{no_element, one_more}
 use Rattle.patterns.proofs.Booleans.{and_true, or_true}
 use Rattle.patterns.proofs.Lists.{IsIn-map, from_IsIn-map}
 use Rattle.css_domain.specs.Ledgers.{is_among}

@@ -3,8 +3,8 @@ use Rattle.std.proofs.Common.{◌≡◌, ℕ, zero, suc, ◌+◌, ◌≤◌, Boo
 use Rattle.std.specs.Prelude.{◌⊎◌, ◌||◌, not, slice_get, Some}
 use Rattle.std.specs.List.{list_any, position_or_len}
 use Rattle.patterns.specs.Parts.{IsIn, NoRepeats}
-use Rattle.patterns.specs.Parts.IsIn.{here, later}
-use Rattle.patterns.specs.Parts.NoRepeats.{no_element, one_more}
+use Rattle.lists.specs.Members.IsIn.{here, later}
+use Rattle.lists.specs.Members.NoRepeats.{no_element, one_more}
 use Rattle.patterns.proofs.Booleans.{or_true, or_false, or_all}
 use Rattle.patterns.proofs.Lists.{NoRepeats-append, IsIn-append_cases}
 use Rattle.css_domain.specs.Added.{with_new, with_all_new}

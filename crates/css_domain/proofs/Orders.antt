@@ -5,8 +5,8 @@ use Rattle.std.specs.List.{list_any, range_with_len}
 use Rattle.std.proofs.lemmas.List.FromFn.{length-range_with_len}
 use Rattle.std.proofs.lemmas.Option.{slice_get_within, slice_get_past}
 use Rattle.patterns.specs.Parts.{IsIn, NoRepeats}
-use Rattle.patterns.specs.Parts.IsIn.{here, later}
-use Rattle.patterns.specs.Parts.NoRepeats.{no_element, one_more}
+use Rattle.lists.specs.Members.IsIn.{here, later}
+use Rattle.lists.specs.Members.NoRepeats.{no_element, one_more}
 use Rattle.patterns.proofs.Lists.{length-le_from_injection}
 use Rattle.patterns.proofs.NoRepeat.{in_range_with_len}
 use Rattle.css_domain.specs.Added.{with_children, order_from}

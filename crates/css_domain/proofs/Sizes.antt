@@ -5,7 +5,7 @@ use Rattle.std.specs.List.{position_or_len}
 use Rattle.std.proofs.lemmas.List.{length-map}
 use Rattle.std.proofs.lemmas.List.Sums.{sum_by-cons, sum_by-append}
 use Rattle.patterns.specs.Parts.{IsIn}
-use Rattle.patterns.specs.Parts.IsIn.{here, later}
+use Rattle.lists.specs.Members.IsIn.{here, later}
 use Rattle.css_domain.specs.Records.{record_words, words_of}
 use Rattle.css_domain.specs.Meanings.{Meaning}
 use Rattle.css_domain.specs.Ledgers.{Books, filings, classes, record_of}

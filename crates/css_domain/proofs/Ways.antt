@@ -8,7 +8,7 @@ use Rattle.std.proofs.lemmas.List.{length-map}
 use Rattle.std.proofs.lemmas.List.Sums.{sum_by-cons}
 use Rattle.std.proofs.Math.Nat.{zero-mul, mul-zero}
 use Rattle.patterns.specs.Parts.{IsIn}
-use Rattle.patterns.specs.Parts.IsIn.{here, later}
+use Rattle.lists.specs.Members.IsIn.{here, later}
 use Rattle.patterns.specs.Words.{words}
 use Rattle.patterns.proofs.Booleans.{and_true, both_true, and_regroup, or_false, or_true, not_false}
 use Rattle.patterns.proofs.Lists.{from_IsIn-filter}

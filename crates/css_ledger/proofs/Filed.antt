@@ -10,8 +10,8 @@ use Rattle.std.proofs.Math.Seq.{take-append_seam}
 use Rattle.css_domain.proofs.Ways.{less_or_whole}
 use Rattle.std.proofs.lemmas.List.Folds.{list_any-append}
 use Rattle.patterns.specs.Parts.{IsIn}
-use Rattle.patterns.specs.Parts.IsIn.{here, later}
-use Rattle.patterns.specs.Parts.NoRepeats.{no_element, one_more}
+use Rattle.lists.specs.Members.IsIn.{here, later}
+use Rattle.lists.specs.Members.NoRepeats.{no_element, one_more}
 use Rattle.patterns.proofs.Booleans.{or_end, or_all}
 use Rattle.patterns.proofs.Lists.{IsIn-append_cases, NoRepeats-append}
 use Rattle.css_domain.specs.declared.record.Record.{Record}

@@ -2,7 +2,7 @@ ghost use Rattle.std.specs.Prelude.{◌≡◌, ◌<◌, ◌≤◌, ℕ, false, l
 ghost use Rattle.css_domain.specs.Ledgers.{new_books, classes, records, done, is_among, claimed, with_work, with_filing, given_back, recalled, counts};
 ghost use Rattle.css_domain.specs.LedgerFacts.{IsFilingOf, IsLedger, HasSizes};
 ghost use Rattle.css_domain.specs.Ledgers.Claimed.{Work};
-ghost use Rattle.patterns.specs.Parts.{IsIn};
+ghost use Rattle.lists.specs.Members.{IsIn};
 ghost use Rattle.css_ledger.specs.Answers.{claimed_as, counted_as};
 
 use crate::pack::{Claimed, Pack, pack_of, spend, without_fresh};

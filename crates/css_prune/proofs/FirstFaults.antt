@@ -7,8 +7,8 @@ use Rattle.std.proofs.lemmas.Bool.Decides.{nat_tests}
 use Rattle.std.proofs.lemmas.List.Folds.{list_all_at}
 use Rattle.std.proofs.lemmas.Option.{slice_get_within}
 use Rattle.patterns.specs.Parts.{IsIn, NoRepeats}
-use Rattle.patterns.specs.Parts.IsIn.{here, later}
-use Rattle.patterns.specs.Parts.NoRepeats.{no_element, one_more}
+use Rattle.lists.specs.Members.IsIn.{here, later}
+use Rattle.lists.specs.Members.NoRepeats.{no_element, one_more}
 use Rattle.patterns.proofs.Booleans.{both_true}
 use Rattle.patterns.proofs.Lists.{from_IsIn-map}
 use Rattle.css_domain.specs.Meanings.{Meaning}

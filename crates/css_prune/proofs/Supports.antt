@@ -6,7 +6,7 @@ use Rattle.std.proofs.lemmas.Bool.{eqb-true}
 use Rattle.std.proofs.lemmas.Bool.Decides.{nat_tests}
 use Rattle.std.proofs.lemmas.List.{length-map}
 use Rattle.patterns.specs.Parts.{IsIn}
-use Rattle.patterns.specs.Parts.IsIn.{here, later}
+use Rattle.lists.specs.Members.IsIn.{here, later}
 use Rattle.patterns.proofs.Booleans.{and_true, both_true}
 use Rattle.patterns.proofs.Lists.{IsIn-map, from_IsIn-map, IsIn-filter, from_IsIn-filter, NoRepeats-filter}
 use Rattle.patterns.proofs.NoRepeat.{IsIn-range_with_len, in_range_with_len, NoRepeats-range_with_len}

@@ -4,7 +4,7 @@ use Rattle.std.specs.Prelude.{map, sum_by, slice_index_or}
 use Rattle.std.proofs.lemmas.List.{get_or-map, get_or_append_left, length-map}
 use Rattle.std.proofs.lemmas.List.Sums.{sum_by-cons}
 use Rattle.std.proofs.Math.Seq.{get_or-append_seam, drop-cons}
-use Rattle.patterns.proofs.Products.{product_count}
+use Rattle.lists.specs.Products.{product_count}
 use Rattle.css_domain.proofs.Ways.{less_or_whole}
 use Rattle.css_terms.specs.Terms.{capped}
 use Rattle.css_terms.specs.Series.{Shows, ShowsAll, Knows, AreBelow, convolution, places}

@@ -1,6 +1,6 @@
 ghost use Rattle.std.specs.Prelude.{◌≡◌, ◌+◌, ◌<◌, ◌^◌, ℕ, [], map, length, sum_by, IfOk};
 ghost use Rattle.css_domain.specs.Shapes.{combine};
-ghost use Rattle.patterns.proofs.Products.{product_count};
+ghost use Rattle.lists.specs.Products.{product_count};
 ghost use Rattle.css_terms.specs.Terms.{capped};
 ghost use Rattle.css_terms.specs.Series.{Shows, Knows, AreBelow, items_of, places};
 

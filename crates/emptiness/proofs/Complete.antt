@@ -5,9 +5,9 @@ use Rattle.std.specs.List.{list_all, list_any, AllZip}
 use Rattle.std.proofs.lemmas.List.{length-map}
 use Rattle.std.proofs.lemmas.Bool.Decides.{Decides-eqb}
 use Rattle.patterns.specs.Parts.{IsPart, IsIn, NoRepeats}
-use Rattle.patterns.specs.Parts.IsIn.{here, later}
-use Rattle.patterns.specs.Parts.IsPart.{none, kept, left_out}
-use Rattle.patterns.specs.Parts.NoRepeats.{no_element, one_more}
+use Rattle.lists.specs.Members.IsIn.{here, later}
+use Rattle.lists.specs.Parts.IsPart.{none, kept, left_out}
+use Rattle.lists.specs.Members.NoRepeats.{no_element, one_more}
 use Rattle.patterns.specs.Words.{has_no_repeats}
 use Rattle.patterns.specs.Ranks.{rank}
 use Rattle.patterns.specs.Occurs.{is_match}

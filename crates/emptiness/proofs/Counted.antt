@@ -4,7 +4,7 @@ use Rattle.std.specs.Prelude.{◌&&◌, ◌↔◌, not, map, nat_lt, Decides, Is
 use Rattle.std.specs.List.{filter, list_all, list_any, AllByRecursion, range_with_len}
 use Rattle.std.proofs.lemmas.Bool.Decides.{nat_tests}
 use Rattle.patterns.specs.Parts.{IsIn}
-use Rattle.patterns.specs.Parts.IsIn.{here}
+use Rattle.lists.specs.Members.IsIn.{here}
 use Rattle.patterns.specs.Words.{words, has_no_repeats}
 use Rattle.patterns.proofs.Booleans.{and_true, both_true}
 use Rattle.patterns.proofs.Lists.{IsIn-map, IsIn-filter, from_IsIn-filter}

@@ -4,7 +4,7 @@ use Rattle.std.specs.Prelude.{◌&&◌, ◌↔◌, ◌⊎◌, IsTrue, Decides, �
 use Rattle.std.specs.List.{list_all, list_any, AllByRecursion}
 use Rattle.std.proofs.lemmas.Bool.Decides.{nat_tests}
 use Rattle.patterns.specs.Parts.{IsIn}
-use Rattle.patterns.specs.Parts.IsIn.{here, later}
+use Rattle.lists.specs.Members.IsIn.{here, later}
 use Rattle.patterns.proofs.Booleans.{and_true, both_true, not_false, same_test}
 use Rattle.patterns.proofs.Lists.{IsIn-map, IsIn-filter, from_IsIn-filter, IsIn-append_left, IsIn-append_right, IsIn-append_cases}
 use Rattle.gridded.specs.declared.cell.Cell.{Cell}

@@ -9,7 +9,7 @@ use Rattle.patterns.proofs.Booleans.{and_true, both_true}
 use Rattle.std.specs.Bool.{beq}
 use Rattle.patterns.specs.Words.{has_no_repeats}
 use Rattle.patterns.specs.Parts.{IsPart}
-use Rattle.patterns.specs.Parts.IsPart.{none, kept, left_out}
+use Rattle.lists.specs.Parts.IsPart.{none, kept, left_out}
 use Rattle.patterns.specs.Occurs.{stand_alike, stands_as, is_match}
 use Rattle.patterns.proofs.PartLaws.{IsPart-itself}
 use Rattle.patterns.proofs.Occurrences.{match_tells}

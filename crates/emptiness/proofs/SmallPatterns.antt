@@ -7,7 +7,7 @@ use Rattle.std.proofs.lemmas.Bool.Decides.{nat_tests}
 use Rattle.std.proofs.lemmas.List.{map-append, append-nil}
 use Rattle.std.proofs.lemmas.Grind.{flat_map-append}
 use Rattle.patterns.specs.Parts.{IsIn}
-use Rattle.patterns.specs.Parts.IsIn.{here, later}
+use Rattle.lists.specs.Members.IsIn.{here, later}
 use Rattle.patterns.specs.Words.{words, has_no_repeats}
 use Rattle.patterns.proofs.Booleans.{and_true, both_true, not_false}
 use Rattle.patterns.proofs.Lists.{from_IsIn-map, IsIn-filter, from_IsIn-filter, IsIn-append_right, IsIn-append_cases}

@@ -7,8 +7,8 @@ use Rattle.std.proofs.lemmas.List.Elements.{All-from_recursion}
 use Rattle.std.proofs.lemmas.List.Sums.{count_by-le-length}
 use Rattle.std.proofs.lemmas.Bool.Decides.{nat_tests}
 use Rattle.patterns.specs.Parts.{IsPart, IsIn}
-use Rattle.patterns.specs.Parts.IsPart.{none, kept, left_out}
-use Rattle.patterns.specs.Parts.IsIn.{here, later}
+use Rattle.lists.specs.Parts.IsPart.{none, kept, left_out}
+use Rattle.lists.specs.Members.IsIn.{here, later}
 use Rattle.patterns.specs.Occurs.{IsSameOrder, is_match}
 use Rattle.patterns.specs.Ranks.{rank, standardised}
 use Rattle.patterns.proofs.Booleans.{same_test}

@@ -6,7 +6,7 @@ use Rattle.std.proofs.lemmas.List.{length-map}
 use Rattle.std.proofs.lemmas.List.Elements.{All-head, All-tail}
 use Rattle.patterns.proofs.Booleans.{and_true, both_true}
 use Rattle.patterns.specs.Parts.{IsPart, IsIn}
-use Rattle.patterns.specs.Parts.IsIn.{here, later}
+use Rattle.lists.specs.Members.IsIn.{here, later}
 use Rattle.patterns.specs.Occurs.{stands_as, stand_alike, is_match, IsSameOrder}
 use Rattle.patterns.specs.Laws.{IsPermutationOf}
 use Rattle.patterns.proofs.PartLaws.{IsPart-itself, IsPart-nothing, IsIn-IsPart, length-IsPart, IsPart-as_long}

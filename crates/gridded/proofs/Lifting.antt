@@ -3,7 +3,7 @@ use Rattle.std.proofs.Common.{◌≡◌, ℕ, true, List, [], ◌∷◌, length,
 use Rattle.std.specs.Prelude.{◌&&◌, nat_lt}
 use Rattle.std.specs.List.{list_all}
 use Rattle.patterns.specs.Parts.{IsPart}
-use Rattle.patterns.specs.Parts.IsPart.{none, kept, left_out}
+use Rattle.lists.specs.Parts.IsPart.{none, kept, left_out}
 use Rattle.patterns.specs.Occurs.{stand_alike, stands_as}
 use Rattle.patterns.proofs.Booleans.{and_true, both_true}
 use Rattle.patterns.proofs.PartLaws.{IsPart-map, from_IsPart-map}

@@ -4,8 +4,8 @@ use Rattle.std.specs.Prelude.{◌==◌, ◌&&◌, ◌||◌, ◌≢◌, not, nat_
 use Rattle.std.specs.List.{list_all}
 use Rattle.std.proofs.lemmas.Bool.Decides.{nat_tests}
 use Rattle.patterns.specs.Parts.{IsPart, IsIn}
-use Rattle.patterns.specs.Parts.IsPart.{kept, left_out}
-use Rattle.patterns.specs.Parts.IsIn.{here, later}
+use Rattle.lists.specs.Parts.IsPart.{kept, left_out}
+use Rattle.lists.specs.Members.IsIn.{here, later}
 use Rattle.patterns.specs.Occurs.{stand_alike, stands_as}
 use Rattle.patterns.specs.Words.{has_no_repeats}
 use Rattle.patterns.proofs.Booleans.{and_true, both_true, not_true}

@@ -1,6 +1,6 @@
 ghost use Rattle.std.specs.Prelude.{◌≡◌, ◌<◌, ◌↔◌, [], length, slice_get, IsTrue, IsNone, IfSome, IfOk};
 ghost use Rattle.std.specs.Cmp.{partial_equiv_from_equiv};
-ghost use Rattle.patterns.specs.Parts.{IsIn};
+ghost use Rattle.lists.specs.Members.{IsIn};
 ghost use Rattle.gridded.specs.CellSets.{bit_of, is_among, with_cell, IsCellSet, HasOneMore, IsLeast};
 ghost use Rattle.gridded.specs.CellSetOrder.{set_eq, set_equiv};
 

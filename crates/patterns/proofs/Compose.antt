@@ -4,7 +4,7 @@ use Rattle.std.specs.Prelude.{◌&&◌, nat_lt}
 use Rattle.std.specs.Bool.{beq}
 use Rattle.patterns.proofs.Booleans.{and_true, both_true}
 use Rattle.patterns.specs.Parts.{IsPart}
-use Rattle.patterns.specs.Parts.IsPart.{none, kept, left_out}
+use Rattle.lists.specs.Parts.IsPart.{none, kept, left_out}
 use Rattle.patterns.specs.Occurs.{stand_alike, stands_as, is_match, Occurs}
 use Rattle.patterns.proofs.PartLaws.{IsPart-trans}
 use Rattle.patterns.proofs.Occurrences.{match_tells, match_from}

@@ -7,8 +7,8 @@ use Rattle.std.proofs.lemmas.Bool.Decides.{nat_tests}
 use Rattle.std.proofs.lemmas.List.{length-map}
 use Rattle.patterns.proofs.Booleans.{and_true, both_true}
 use Rattle.patterns.specs.Parts.{IsIn, IsPart, parts}
-use Rattle.patterns.specs.Parts.IsIn.{here, later}
-use Rattle.patterns.specs.Parts.IsPart.{none, kept, left_out}
+use Rattle.lists.specs.Members.IsIn.{here, later}
+use Rattle.lists.specs.Parts.IsPart.{none, kept, left_out}
 use Rattle.patterns.specs.Occurs.{IsSameOrder, Occurs, stand_alike, stands_as, is_match, occurs}
 use Rattle.patterns.proofs.PartLaws.{IsPart-nothing}
 use Rattle.patterns.proofs.Lists.{from_IsIn-map, IsIn-map, IsIn-append_cases, IsIn-append_left, IsIn-append_right}

@@ -9,8 +9,8 @@ use Rattle.std.proofs.lemmas.List.Filters.{length-filter_both}
 use Rattle.std.proofs.lemmas.Bool.Decides.{nat_tests, Decides-eqb}
 use Rattle.patterns.proofs.Booleans.{and_true, not_true, same_test}
 use Rattle.patterns.specs.Parts.{IsIn, NoRepeats}
-use Rattle.patterns.specs.Parts.IsIn.{here, later}
-use Rattle.patterns.specs.Parts.NoRepeats.{no_element, one_more}
+use Rattle.lists.specs.Members.IsIn.{here, later}
+use Rattle.lists.specs.Members.NoRepeats.{no_element, one_more}
 use Rattle.patterns.specs.Words.{has_no_repeats}
 use Rattle.patterns.specs.Laws.{IsPermutationOf}
 use Rattle.patterns.specs.Ranks.{rank}

@@ -4,7 +4,8 @@ use Rattle.std.specs.Prelude.{◌&&◌, ◌||◌, map, nat_lt}
 use Rattle.std.specs.Bool.{beq}
 use Rattle.std.specs.List.{list_any}
 use Rattle.std.proofs.lemmas.List.Folds.{list_any-append}
-use Rattle.patterns.proofs.Booleans.{and_end, and_none, and_regroup, and_comm}
+use Rattle.patterns.proofs.Booleans.{and_end, and_none, and_comm}
+use Rattle.std.proofs.Math.Bool.{and_assoc}
 use Rattle.patterns.specs.Parts.{parts}
 use Rattle.patterns.specs.Occurs.{stands_as, stand_alike, is_match, occurs}
 use Rattle.patterns.specs.Search.{is_found}
@@ -32,7 +33,7 @@ module _ {X : Type 0} (letter : X → ℕ) (same : X → X → Bool) where
   stands_as-push x a (z ∷ xs) [] y b e = absurd (omega arith)
   stands_as-push x a [] (c ∷ as') y b e = absurd (omega arith)
   stands_as-push x a (z ∷ xs) (c ∷ as') y b e =
-      rw (stands_as-push x a xs as' y b (omega arith)) (and_regroup (stand_alike (letter x) (letter a) (letter z) (letter c)) (stands_as letter same x a xs as') (stand_alike (letter x) (letter a) (letter y) (letter b)))
+      rw (stands_as-push x a xs as' y b (omega arith)) (sym (and_assoc (stand_alike (letter x) (letter a) (letter z) (letter c)) (stands_as letter same x a xs as') (stand_alike (letter x) (letter a) (letter y) (letter b))))
 
   -- whether each later point stands to the earlier ones as its partner does
   abbrev all_stand : List X → List X → List X → List X → Bool

@@ -1,35 +1,3 @@
--- Parts of a list: what is left of it where some elements are left out.
-use Rattle.std.specs.Prelude.{◌≡◌, ◌<◌, ◌≤◌, ℕ, zero, suc, List, [], ◌∷◌, ◌++◌, map, slice_index_or}
-
--- part is what stands at some rising places of whole
-pub data IsPart {X : Type 0} : List X → List X → Type 0 where
-  none : IsPart [] []
-  kept : {part whole : List X} (x : X) → IsPart part whole → IsPart (x ∷ part) (x ∷ whole)
-  left_out : {part whole : List X} (x : X) → IsPart part whole → IsPart part (x ∷ whole)
-
--- the parts of so many elements
-abbrev pub parts : {X : Type 0} → ℕ → List X → List (List X)
-parts zero xs = [] ∷ []
-parts (suc n) [] = []
-parts (suc n) (x ∷ xs) = map (λ part. x ∷ part) (parts n xs) ++ parts (suc n) xs
-
--- each place is at or past `from`, below `end`, and above the one before
-abbrev pub IsRising : ℕ → ℕ → List ℕ → Type 0
-IsRising from end [] = Unit {0}
-IsRising from end (k ∷ ks) = (from ≤ k) × (k < end) × IsRising (suc k) end ks
-
--- these elements stand at these places
-abbrev pub StandAt : {X : Type 0} → List X → List ℕ → List X → Type 0
-StandAt xs [] [] = Unit {0}
-StandAt xs (k ∷ ks) (y ∷ ys) = ((d : _) → slice_index_or xs k d ≡ y) × StandAt xs ks ys
-StandAt xs _ _ = ⊥
-
--- x is in the list
-pub data IsIn {X : Type 0} (x : X) : List X → Type 0 where
-  here : {xs : List X} → IsIn x (x ∷ xs)
-  later : {xs : List X} (y : X) → IsIn x xs → IsIn x (y ∷ xs)
-
--- no element stands twice
-pub data NoRepeats {X : Type 0} : List X → Type 0 where
-  no_element : NoRepeats []
-  one_more : {x : X} {xs : List X} → (IsIn x xs → ⊥) → NoRepeats xs → NoRepeats (x ∷ xs)
+-- What is in a list, and its parts: the words of lists, passed on.
+pub use Rattle.lists.specs.Members.{IsIn, NoRepeats}
+pub use Rattle.lists.specs.Parts.{IsPart, parts, IsRising, StandAt}

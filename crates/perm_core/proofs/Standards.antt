@@ -4,7 +4,7 @@ use Rattle.std.specs.Prelude.{map, nat_lt}
 use Rattle.std.proofs.lemmas.List.{length-map, get_or-map, take_more_set, take_more, take_all, map-append}
 use Rattle.std.proofs.lemmas.List.Sums.{count_by-le-length}
 use Rattle.patterns.specs.Parts.{IsIn}
-use Rattle.patterns.specs.Parts.IsIn.{here, later}
+use Rattle.lists.specs.Members.IsIn.{here, later}
 use Rattle.patterns.specs.Ranks.{rank, standardised}
 use Rattle.patterns.proofs.Standard.{rank-lt-length, standardised_same_order}
 use Rattle.perm_core.specs.Perms.{IsPerm, IsDistinct}

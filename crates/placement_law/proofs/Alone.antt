@@ -4,8 +4,8 @@ use Rattle.std.specs.Prelude.{◌&&◌, ◌⊎◌, not, ◌==◌, map, filter}
 use Rattle.std.specs.List.{list_all}
 use Rattle.std.proofs.lemmas.Bool.Decides.{nat_tests, Decides-eqb}
 use Rattle.patterns.specs.Parts.{IsIn, IsPart}
-use Rattle.patterns.specs.Parts.IsIn.{here, later}
-use Rattle.patterns.specs.Parts.IsPart.{none, kept, left_out}
+use Rattle.lists.specs.Members.IsIn.{here, later}
+use Rattle.lists.specs.Parts.IsPart.{none, kept, left_out}
 use Rattle.patterns.specs.Occurs.{stand_alike, stands_as}
 use Rattle.patterns.proofs.Booleans.{and_true, both_true, or_true, or_all, not_false}
 use Rattle.patterns.proofs.Lists.{IsIn-map, from_IsIn-map, IsIn-filter, from_IsIn-filter}

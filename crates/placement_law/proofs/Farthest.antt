@@ -4,7 +4,7 @@ use Rattle.std.specs.Prelude.{not, find, Some, None, cond}
 use Rattle.std.specs.List.{list_all}
 use Rattle.std.proofs.lemmas.Bool.Decides.{nat_tests}
 use Rattle.patterns.specs.Parts.{IsIn}
-use Rattle.patterns.specs.Parts.IsIn.{here, later}
+use Rattle.lists.specs.Members.IsIn.{here, later}
 use Rattle.patterns.proofs.Booleans.{not_true, not_false}
 use Rattle.gridded.specs.Grids.{Point}
 use Rattle.tiling_core.proofs.Deciding.{each_passes, all_pass}

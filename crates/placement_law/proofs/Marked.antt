@@ -5,7 +5,7 @@ use Rattle.std.specs.List.{list_any}
 use Rattle.std.proofs.lemmas.Bool.Decides.{Decides-eqb}
 use Rattle.std.proofs.lemmas.List.{length-map}
 use Rattle.patterns.specs.Parts.{IsIn, IsPart, parts}
-use Rattle.patterns.specs.Parts.IsIn.{here, later}
+use Rattle.lists.specs.Members.IsIn.{here, later}
 use Rattle.patterns.specs.Occurs.{stands_as, is_match}
 use Rattle.patterns.proofs.Booleans.{and_true, both_true}
 use Rattle.patterns.proofs.Lists.{IsIn-filter, from_IsIn-filter}

@@ -4,7 +4,7 @@ use Rattle.std.specs.Prelude.{◌&&◌, not, map, flat_map}
 use Rattle.std.specs.List.{list_all, list_any}
 use Rattle.std.proofs.lemmas.List.Folds.{list_all-append}
 use Rattle.patterns.specs.Parts.{IsIn}
-use Rattle.patterns.specs.Parts.IsIn.{here}
+use Rattle.lists.specs.Members.IsIn.{here}
 use Rattle.patterns.proofs.Booleans.{and_true, both_true, not_false}
 use Rattle.patterns.proofs.NoRepeat.{IsIn-flat_map, from_IsIn-flat_map}
 use Rattle.gridded.specs.declared.cell.Cell.{Cell}

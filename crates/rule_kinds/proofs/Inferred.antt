@@ -3,7 +3,7 @@ use Rattle.std.proofs.Common.{◌≡◌, ℕ, zero, suc, true, List, [], ◌∷�
 use Rattle.std.specs.Prelude.{◌&&◌, ◌⊎◌, ◌++◌, not, nat_le, filter, Contains}
 use Rattle.std.specs.List.{list_any, AllByRecursion}
 use Rattle.patterns.specs.Parts.{IsIn}
-use Rattle.patterns.specs.Parts.IsIn.{here, later}
+use Rattle.lists.specs.Members.IsIn.{here, later}
 use Rattle.patterns.proofs.Booleans.{and_true, both_true, not_false}
 use Rattle.patterns.proofs.Lists.{IsIn-map, IsIn-filter, from_IsIn-filter, IsIn-append_left, IsIn-append_right, IsIn-append_cases}
 use Rattle.gridded.specs.Grids.{Point, cell_of, holds, Holds, gridded_of, cells_in}

@@ -4,7 +4,7 @@ use Rattle.std.specs.Prelude.{◌||◌, slice_index_or}
 use Rattle.std.specs.List.{list_all, list_any}
 use Rattle.std.proofs.lemmas.List.Folds.{list_all_more}
 use Rattle.patterns.specs.Parts.{IsIn}
-use Rattle.patterns.specs.Parts.IsIn.{here, later}
+use Rattle.lists.specs.Members.IsIn.{here, later}
 use Rattle.patterns.proofs.Booleans.{and_true, and_none, both_true}
 
 pub each_passes : {X : Type 0} (test : X → Bool) {x : X} {xs : List X} → IsIn x xs → list_all test xs ≡ true → test x ≡ true

@@ -6,7 +6,7 @@ use Rattle.std.proofs.lemmas.Bool.Decides.{Decides-eqb}
 use Rattle.std.proofs.lemmas.List.{length-map}
 use Rattle.std.proofs.lemmas.List.Sums.{sum_by-cons}
 use Rattle.patterns.specs.Parts.{IsIn, IsPart}
-use Rattle.patterns.specs.Parts.IsIn.{here, later}
+use Rattle.lists.specs.Members.IsIn.{here, later}
 use Rattle.patterns.proofs.Booleans.{same_test}
 use Rattle.patterns.proofs.PartLaws.{IsPart-itself, filter-IsPart}
 use Rattle.patterns.proofs.Occurrences.{match_from, match_tells, Matches}

@@ -8,7 +8,7 @@ use Rattle.std.proofs.lemmas.List.Sums.{sum_by-cons}
 use Rattle.patterns.proofs.Booleans.{and_true, both_true, not_true, not_false, same_test}
 use Rattle.patterns.proofs.Lists.{from_IsIn-filter, IsIn-filter}
 use Rattle.patterns.specs.Parts.{IsIn}
-use Rattle.patterns.specs.Parts.IsIn.{here, later}
+use Rattle.lists.specs.Members.IsIn.{here, later}
 use Rattle.gridded.specs.Grids.{Point, holds}
 use Rattle.gridded.specs.Orders.{gridded_eq, gridded_cmp}
 use Rattle.gridded.specs.OrderLaws.{gridded_eq_decides, gridded_total, gridded_exact}

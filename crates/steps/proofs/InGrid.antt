@@ -4,7 +4,7 @@ use Rattle.std.specs.Prelude.{map, not, All}
 use Rattle.std.specs.List.{filter, AllByRecursion}
 use Rattle.std.proofs.lemmas.List.Elements.{All-from_recursion, All-filter}
 use Rattle.patterns.specs.Parts.{IsIn}
-use Rattle.patterns.specs.Parts.IsIn.{here, later}
+use Rattle.lists.specs.Members.IsIn.{here, later}
 use Rattle.patterns.proofs.Lists.{from_IsIn-map}
 use Rattle.gridded.specs.Grids.{Point}
 use Rattle.tiling_core.specs.Tiles.{IsInGrid}

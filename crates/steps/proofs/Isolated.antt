@@ -6,8 +6,8 @@ use Rattle.std.specs.Cmp.Lexicographic.{pointwise, pointwise_decides}
 use Rattle.std.proofs.lemmas.List.Folds.{list_all-map}
 use Rattle.std.proofs.lemmas.Bool.Decides.{nat_tests, Decides-eqb}
 use Rattle.patterns.specs.Parts.{IsIn, IsPart}
-use Rattle.patterns.specs.Parts.IsIn.{here, later}
-use Rattle.patterns.specs.Parts.IsPart.{none, kept, left_out}
+use Rattle.lists.specs.Members.IsIn.{here, later}
+use Rattle.lists.specs.Parts.IsPart.{none, kept, left_out}
 use Rattle.patterns.proofs.Booleans.{and_true, both_true, or_false, not_true, not_false, same_test}
 use Rattle.patterns.proofs.Lists.{IsIn-map, IsIn-filter}
 use Rattle.patterns.proofs.Occurrences.{match_tells}

@@ -10,7 +10,7 @@ use Rattle.std.proofs.lemmas.List.Kept.{IsStrictlySortedBy-filter}
 use Rattle.std.specs.declared.cmp.Ordering.{Ordering}
 use Rattle.std.specs.declared.cmp.Ordering.TheVariants.{Less}
 use Rattle.patterns.specs.Parts.{IsIn}
-use Rattle.patterns.specs.Parts.IsIn.{here, later}
+use Rattle.lists.specs.Members.IsIn.{here, later}
 use Rattle.patterns.proofs.Booleans.{and_true, both_true, same_test}
 use Rattle.patterns.proofs.Lists.{IsIn-filter, from_IsIn-filter, IsIn-append_left}
 use Rattle.gridded.specs.Grids.{Point, holds, IsGridded}

@@ -5,8 +5,8 @@ use Rattle.std.specs.List.{filter, list_any, list_all, range_with_len}
 use Rattle.std.proofs.lemmas.List.Folds.{list_all-map}
 use Rattle.std.proofs.lemmas.Bool.Decides.{nat_tests}
 use Rattle.patterns.specs.Parts.{IsIn, IsPart}
-use Rattle.patterns.specs.Parts.IsIn.{here, later}
-use Rattle.patterns.specs.Parts.IsPart.{none, kept, left_out}
+use Rattle.lists.specs.Members.IsIn.{here, later}
+use Rattle.lists.specs.Parts.IsPart.{none, kept, left_out}
 use Rattle.patterns.proofs.Booleans.{and_true, both_true, not_true, not_false}
 use Rattle.patterns.proofs.Lists.{IsIn-map, from_IsIn-map, IsIn-filter}
 use Rattle.patterns.proofs.NoRepeat.{IsIn-flat_map, in_range_with_len}

@@ -5,8 +5,8 @@ use Rattle.std.specs.Bool.{beq}
 use Rattle.std.specs.List.{filter, list_any, list_all}
 use Rattle.std.proofs.lemmas.Bool.Decides.{nat_tests, Decides-eqb}
 use Rattle.patterns.specs.Parts.{IsIn, IsPart}
-use Rattle.patterns.specs.Parts.IsIn.{here, later}
-use Rattle.patterns.specs.Parts.IsPart.{kept, left_out}
+use Rattle.lists.specs.Members.IsIn.{here, later}
+use Rattle.lists.specs.Parts.IsPart.{kept, left_out}
 use Rattle.patterns.proofs.Booleans.{and_true, both_true, not_true}
 use Rattle.patterns.proofs.Lists.{IsIn-map, from_IsIn-filter}
 use Rattle.patterns.specs.Words.{has_no_repeats}

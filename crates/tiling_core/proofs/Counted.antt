@@ -6,7 +6,7 @@ use Rattle.std.proofs.lemmas.List.{get_or-map, length-map}
 use Rattle.std.proofs.lemmas.List.Sums.{sum_by-cons}
 use Rattle.std.proofs.lemmas.List.Elements.{filter_agree}
 use Rattle.patterns.specs.Parts.{IsIn, NoRepeats}
-use Rattle.patterns.specs.Parts.NoRepeats.{no_element}
+use Rattle.lists.specs.Members.NoRepeats.{no_element}
 use Rattle.patterns.proofs.Lists.{numbered, length-numbered, IsIn-numbered, from_IsIn-numbered, from_IsIn-map, NoRepeats-append, NoRepeats-map, length-from_inverse}
 use Rattle.gridded.specs.Grids.{Point, gridded_of}
 use Rattle.tiling_core.specs.Tiles.{Tiles, is_member, count}

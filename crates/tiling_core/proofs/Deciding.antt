@@ -4,7 +4,7 @@ use Rattle.std.specs.Prelude.{◌&&◌, ◌||◌, not, nat_lt, map, Decides}
 use Rattle.std.specs.List.{list_all, list_any}
 use Rattle.std.proofs.lemmas.Bool.Decides.{nat_tests}
 use Rattle.patterns.specs.Parts.{IsIn}
-use Rattle.patterns.specs.Parts.IsIn.{here, later}
+use Rattle.lists.specs.Members.IsIn.{here, later}
 use Rattle.patterns.proofs.Booleans.{and_true, both_true, or_all, not_false}
 use Rattle.patterns.proofs.Lists.{IsIn-map, from_IsIn-map}
 use Rattle.gridded.specs.declared.cell.Cell.{Cell}

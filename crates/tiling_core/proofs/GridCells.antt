@@ -8,7 +8,7 @@ use Rattle.std.proofs.lemmas.List.Folds.{list_any_more}
 use Rattle.std.proofs.lemmas.Grind.{flat_map-append}
 use Rattle.std.proofs.lemmas.List.{map-append}
 use Rattle.patterns.specs.Parts.{IsIn}
-use Rattle.patterns.specs.Parts.IsIn.{here, later}
+use Rattle.lists.specs.Members.IsIn.{here, later}
 use Rattle.patterns.proofs.Booleans.{not_false, and_end, and_none, or_end}
 use Rattle.patterns.proofs.Lists.{from_IsIn-map, IsIn-filter, from_IsIn-filter}
 use Rattle.patterns.proofs.NoRepeat.{IsIn-range_with_len}

@@ -6,8 +6,8 @@ use Rattle.std.proofs.lemmas.Bool.Decides.{Decides-eqb, nat_tests}
 use Rattle.std.proofs.lemmas.List.{length-map}
 use Rattle.std.proofs.lemmas.List.Elements.{All-head, All-tail}
 use Rattle.patterns.specs.Parts.{IsIn, IsPart}
-use Rattle.patterns.specs.Parts.IsIn.{here, later}
-use Rattle.patterns.specs.Parts.IsPart.{none, kept, left_out}
+use Rattle.lists.specs.Members.IsIn.{here, later}
+use Rattle.lists.specs.Parts.IsPart.{none, kept, left_out}
 use Rattle.patterns.specs.Occurs.{IsSameOrder}
 use Rattle.patterns.proofs.Booleans.{and_true, not_true, not_false, same_test}
 use Rattle.patterns.proofs.Lists.{from_IsIn-map, IsIn-filter, from_IsIn-filter}

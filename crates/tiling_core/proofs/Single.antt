@@ -4,8 +4,8 @@ use Rattle.std.specs.Prelude.{◌||◌, ◌⊎◌, not, map, nat_lt, ◌==◌}
 use Rattle.std.specs.List.{list_any}
 use Rattle.std.proofs.lemmas.Bool.Decides.{nat_tests, Decides-eqb}
 use Rattle.patterns.specs.Parts.{IsIn, IsPart}
-use Rattle.patterns.specs.Parts.IsIn.{here, later}
-use Rattle.patterns.specs.Parts.IsPart.{none, kept, left_out}
+use Rattle.lists.specs.Members.IsIn.{here, later}
+use Rattle.lists.specs.Parts.IsPart.{none, kept, left_out}
 use Rattle.patterns.specs.Words.{has_no_repeats}
 use Rattle.patterns.specs.Occurs.{occurs, is_match}
 use Rattle.patterns.proofs.Booleans.{and_true, both_true}

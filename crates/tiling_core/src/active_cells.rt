@@ -1,5 +1,5 @@
 ghost use Rattle.std.specs.Prelude.{◌≡◌, ◌<◌, ◌↔◌, ◌&&◌, ◌||◌, true};
-ghost use Rattle.patterns.specs.Parts.{IsIn};
+ghost use Rattle.lists.specs.Members.{IsIn};
 ghost use Rattle.gridded.specs.declared.cell.Cell.{Cell};
 ghost use Rattle.gridded.specs.CellSets.{cells_that, is_among as has_cell, IsCellSet};
 ghost use Rattle.gridded.specs.Orders.{cell_eq, gridded_eq};

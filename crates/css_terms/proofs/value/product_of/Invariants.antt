@@ -1,6 +1,6 @@
 use Rattle.std.proofs.Common.{◌≡◌, ◌+◌, ◌-◌, ℕ, length, drop}
 use Rattle.std.specs.Prelude.{map}
-use Rattle.patterns.proofs.Products.{product_count}
+use Rattle.lists.specs.Products.{product_count}
 use Rattle.css_terms.specs.Series.{Shows, Knows, items_of, places}
 use Rattle.css_terms.proofs.value.product_of.Given as goal
 

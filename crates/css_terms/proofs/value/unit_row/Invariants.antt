@@ -1,5 +1,5 @@
 use Rattle.std.proofs.Common.{◌≡◌, ◌+◌, length, []}
-use Rattle.patterns.proofs.Products.{product_count}
+use Rattle.lists.specs.Products.{product_count}
 use Rattle.css_terms.specs.Series.{Shows}
 use Rattle.css_terms.proofs.value.unit_row.Given as goal
 

@@ -1,0 +1,16 @@
+pub mod Members
+pub mod Repeats
+pub mod Injections
+pub mod Tests
+pub mod Filters
+pub mod Maps
+pub mod Counts
+pub mod Ranges
+pub mod Words
+pub mod Parts
+pub mod Numbers
+pub mod Places
+pub mod Added
+pub mod Buckets
+pub mod Unions
+pub mod Products
