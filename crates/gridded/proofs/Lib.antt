@@ -1,3 +1,4 @@
+pub mod Keys
 pub mod Points
 pub mod GriddedLists
 pub mod Searches

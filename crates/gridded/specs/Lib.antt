@@ -1,5 +1,6 @@
 pub mod Grids
 pub mod Orders
+pub mod Keys
 pub mod OrderLaws
 pub mod Hashes
 pub mod Search

@@ -1,6 +1,6 @@
 ghost use Rattle.std.specs.Prelude.{◌≡◌, ◌≤◌, ◌↔◌, [], length, IfOk, IfErr, OnOk, IsTrue};
 ghost use Rattle.gridded.specs.Places.{fits_grid};
-ghost use Rattle.gridded.specs.Grids.{letter_of, cell_of, points, IsGridded, FitTogether};
+ghost use Rattle.gridded.specs.Grids.{letter_of, cell_of, points, IsGridded, FitTogether, nine_letters, nine_cells};
 ghost use Rattle.gridded.specs.Refused.{IsAccepted, IsRefused};
 ghost use Rattle.gridded.specs.declared.fault.GriddedFault.TheVariants.{Memory};
 ghost use Rattle.gridded.specs.Free.{free_of};
@@ -19,10 +19,10 @@ use std::marker::Model;
 /// letters. Ordered by length, then letters, then cells (docs/RULES.md, "Gridded permutations").
 #[derive(Clone, Copy, Debug)]
 pub struct Gridded {
+    len: u8,
     letters: [u8; 9],
     cells: [Cell; 9],
     free: u32,
-    len: u8,
 }
 
 impl Model for Gridded {
@@ -100,6 +100,20 @@ impl Gridded {
         ensures gridded { IsGridded self.now }
     {
         &self.cells[..self.len as usize]
+    }
+
+    /// The letters at nine places, 0 past the end.
+    pub(crate) fn nine_letters(&self) -> &[u8; 9]
+        ensures { result.now ≡ nine_letters (letters_of self.now) }
+    {
+        &self.letters
+    }
+
+    /// The cells at nine places, the corner past the end.
+    pub(crate) fn nine_cells(&self) -> &[Cell; 9]
+        ensures { result.now ≡ nine_cells (cells_of self.now) }
+    {
+        &self.cells
     }
 
     /// The bits that no cell has.

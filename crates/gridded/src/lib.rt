@@ -16,6 +16,7 @@ mod fit;
 mod free;
 mod gridded;
 mod hold;
+mod key;
 mod laws;
 mod part;
 mod set_cells;
