@@ -24,7 +24,7 @@ use Rattle.tiling_core.specs.Measures.{weight}
 use Rattle.gridded.specs.Small.{point_at}
 use Rattle.tiling_core.specs.Patterns.{forbids, active_cells, requires_list}
 use Rattle.steps.specs.Steps.{is_nil}
-use Rattle.emptiness.proofs.SmallPatterns.{fit-point}
+use Rattle.gridded.proofs.SmallFits.{fit-point}
 use Rattle.rule_kinds.specs.declared.kind.Kind.{Kind}
 use Rattle.rule_kinds.specs.declared.kind.Kind.TheVariants as kind
 use Rattle.rule_kinds.specs.Conditions as D
