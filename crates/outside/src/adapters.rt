@@ -39,6 +39,13 @@ impl<T: Read> StdSource<T> {
     {
         StdSource { inner, faults: 0 }
     }
+
+    /// How many faults it has counted. Takes no memory.
+    pub fn faults(&self) -> u64
+        ensures { result ≡ self.now.faults }
+    {
+        self.faults
+    }
 }
 
 impl<T: Read> Source for StdSource<T> {
@@ -101,6 +108,13 @@ impl<T: Write> StdSink<T> {
         ensures { result ≡ record { inner = inner; faults = 0 } }
     {
         StdSink { inner, faults: 0 }
+    }
+
+    /// How many faults it has counted. Takes no memory.
+    pub fn faults(&self) -> u64
+        ensures { result ≡ self.now.faults }
+    {
+        self.faults
     }
 }
 

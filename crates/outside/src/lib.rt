@@ -17,4 +17,6 @@ pub use sources::Source;
 pub use steady::{SteadySink, SteadySource};
 
 #[cfg(test)]
+mod adapters_tests;
+#[cfg(test)]
 mod tests;
