@@ -1,5 +1,5 @@
 -- Rows of collapse, preimages and stretch, computed.
-use Rattle.std.specs.Prelude.{◌≡◌, ℕ, List, [], ◌∷◌, length, refl}
+use Rattle.std.specs.Prelude.{◌≡◌, ℕ, ◌*◌, List, [], ◌∷◌, length, refl}
 use Rattle.gridded.specs.declared.cell.Cell.{Cell}
 use Rattle.gridded.specs.Grids.{Point, points}
 use Rattle.tiling_core.specs.Tiles.{tiling_of}
@@ -8,6 +8,7 @@ use Rattle.coord_maps.specs.LineMaps.{Cut, old_line, new_lines}
 use Rattle.coord_maps.specs.GridMaps.{collapse}
 use Rattle.coord_maps.specs.Preimages.{preimages, completions}
 use Rattle.coord_maps.specs.Stretches.{stretch}
+use Rattle.coord_maps.specs.Ways.{ways}
 
 abbrev cell : ℕ → ℕ → Cell
 cell x y = record { x = x; y = y }
@@ -56,3 +57,17 @@ stretch_row = refl
 
 stretch_sides : ((stretch (single 3 2) (tiling_of 1 1 (rising ∷ []) [])).width ≡ 3) × ((stretch (single 3 2) (tiling_of 1 1 (rising ∷ []) [])).height ≡ 2)
 stretch_sides = (refl, refl)
+
+-- nine points of one cell, cut into three parts both ways
+most_row : ways 9 3 * ways 9 3 ≡ 3025
+most_row = refl
+
+-- rows fall from left to right where letters fall
+uneven_row : preimages (record { columns = cut 1 0 2; rows = cut 2 0 2 }) (points (1 ∷ 0 ∷ []) (cell 0 1 ∷ cell 0 0 ∷ []))
+    ≡ points (1 ∷ 0 ∷ []) (cell 0 2 ∷ cell 0 0 ∷ []) ∷ points (1 ∷ 0 ∷ []) (cell 0 2 ∷ cell 0 1 ∷ []) ∷ points (1 ∷ 0 ∷ []) (cell 0 2 ∷ cell 1 0 ∷ []) ∷ points (1 ∷ 0 ∷ []) (cell 0 2 ∷ cell 1 1 ∷ []) ∷ points (1 ∷ 0 ∷ []) (cell 1 2 ∷ cell 1 0 ∷ []) ∷ points (1 ∷ 0 ∷ []) (cell 1 2 ∷ cell 1 1 ∷ []) ∷ []
+uneven_row = refl
+
+-- a list keeps the preimages of all its members
+lists_row : (stretch (record { columns = cut 2 1 3; rows = cut 2 0 1 }) (tiling_of 2 2 [] ((points (0 ∷ []) (cell 1 1 ∷ []) ∷ points (1 ∷ 0 ∷ []) (cell 0 1 ∷ cell 1 0 ∷ []) ∷ []) ∷ []))).requirements
+    ≡ (points (0 ∷ []) (cell 1 1 ∷ []) ∷ points (0 ∷ []) (cell 2 1 ∷ []) ∷ points (0 ∷ []) (cell 3 1 ∷ []) ∷ points (1 ∷ 0 ∷ []) (cell 0 1 ∷ cell 1 0 ∷ []) ∷ points (1 ∷ 0 ∷ []) (cell 0 1 ∷ cell 2 0 ∷ []) ∷ points (1 ∷ 0 ∷ []) (cell 0 1 ∷ cell 3 0 ∷ []) ∷ []) ∷ []
+lists_row = refl

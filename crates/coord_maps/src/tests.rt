@@ -2,7 +2,7 @@ ghost use Rattle.std.specs.Prelude.{◌≡◌, ◌≤◌, IfOk};
 ghost use Rattle.gridded.specs.Grids.{points};
 
 use crate::{
-    GridMap, LineMap, collapse, preimage_count, preimages, preimages_are_listed_once, stretch,
+    GridMap, LineMap, add_preimages, collapse, preimage_count, preimages, preimages_are_listed_once, stretch,
     stretch_keeps_members,
 };
 use gridded::{Cell, Gridded, GriddedFault};
@@ -66,8 +66,10 @@ fn preimages_of_a_rising_pair(rt: HostRuntime) -> Result<(), Fail> {
     let alloc = rt.alloc();
     let map = single(3, 3);
     let rising = pair(alloc, [0, 1], [cell(0, 0), cell(0, 0)])?;
-    let listed = preimages(alloc, &map, &rising)?;
+    let mut listed = preimages(alloc, &map, &rising)?;
     assert_eq!(rt; listed.len(), 36);
+    add_preimages(&map, &rising, &mut listed)?;
+    assert_eq!(rt; listed.len(), 72);
     assert_eq!(rt; preimage_count(&map, &rising), 36);
     Ok(())
 }
