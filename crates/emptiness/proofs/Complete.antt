@@ -25,31 +25,20 @@ use Rattle.emptiness.specs.Glueing.{stands_in, joins, joins_at, falls_on, glues_
 use Rattle.emptiness.proofs.Inserted.{consistent-inserted}
 use Rattle.gridded.specs.Parts.{ranked, closed_up}
 use Rattle.emptiness.proofs.Standard.{closed_up-more, member-closed_up, any-agree}
-use Rattle.patterns.proofs.PartLaws.{list_all-IsPart}
+use Rattle.patterns.proofs.PartLaws.{list_all-IsPart, IsPart-nothing, IsIn-IsPart}
+use Rattle.lists.proofs.Parts.{IsPart-append}
+use Rattle.lists.proofs.Tests.{which_passes, some_passes, each_passes, all_pass}
+use Rattle.tiling_core.proofs.Deciding.{not_held as not_both, false_from}
+use Rattle.gridded.specs.OrderLaws.{cell_eq_decides}
 use Rattle.gridded.proofs.ClosedUp.{rank-small, holds-closed_up, consistent-closed_up}
 use Rattle.gridded.proofs.Consistent.{consistent_part}
 use Rattle.emptiness.proofs.Steps.{any_below-here}
 
 -- ---- parts
-IsPart-append : {X : Type 0} {a b c d : List X} → IsPart a b → IsPart c d → IsPart (a ++ c) (b ++ d)
-IsPart-append none k = k
-IsPart-append (kept x h) k = kept x (IsPart-append h k)
-IsPart-append (left_out x h) k = left_out x (IsPart-append h k)
-
 IsPart-longer : {X : Type 0} {a b : List X} (x : X) → IsPart a b → IsPart a (b ++ x ∷ [])
 IsPart-longer x none = left_out x none
 IsPart-longer x (kept y h) = kept y (IsPart-longer x h)
 IsPart-longer x (left_out y h) = left_out y (IsPart-longer x h)
-
-IsPart-nothing : {X : Type 0} (xs : List X) → IsPart [] xs
-IsPart-nothing [] = none
-IsPart-nothing (x ∷ xs) = left_out x (IsPart-nothing xs)
-
-from_IsPart : {X : Type 0} {x : X} {a b : List X} → IsPart a b → IsIn x a → IsIn x b
-from_IsPart none m = m
-from_IsPart (kept y h) here = here
-from_IsPart (kept y h) (later _ m) = later y (from_IsPart h m)
-from_IsPart (left_out y h) m = later y (from_IsPart h m)
 
 one-inside : {X : Type 0} (a b : List X) (x : X) → IsPart (a ++ b) (a ++ x ∷ b)
 one-inside [] b x = left_out x (IsPart-itself b)
@@ -68,11 +57,8 @@ letters-append : (a b : List Point) → letters_of (a ++ b) ≡ letters_of a ++ 
 letters-append [] b = refl
 letters-append (p ∷ a) b = ap (λ rest. p.letter ∷ rest) (letters-append a b)
 
-own-cell : (c : Cell) → cell_eq c c ≡ true
-own-cell c = both_true (c.x == c.x) (c.y == c.y) ((Decides-eqb c.x c.x).1 refl) ((Decides-eqb c.y c.y).1 refl)
-
 stands-ranked : (ls : List ℕ) (a b : List Point) (x : Point) → stands_in (length a) x.cell (map (ranked ls) (a ++ x ∷ b)) ≡ true
-stands-ranked ls [] b x = own-cell x.cell
+stands-ranked ls [] b x = (cell_eq_decides x.cell x.cell).1 refl
 stands-ranked ls (y ∷ a) b x = stands-ranked ls a b x
 
 pub length-standard : (c : List Point) → length (closed_up c) ≡ length c
@@ -99,7 +85,7 @@ module _ (obstructions : List (List Point)) (p m c0 : List Point) (next : List P
       let part : IsPart (c1 ++ y ∷ c2) m = subst (λ w. IsPart (c1 ++ y ∷ c2) w) whole (IsPart-append h (kept y k)) in
       let out : IsIn y.letter (letters_of (c1 ++ c2)) → ⊥ = λ z.
       apart (letters_of m1) (letters_of m2) y.letter (subst (λ ls. NoRepeats ls) (ap letters_of (sym whole) ∙ letters-append m1 (y ∷ m2)) allows.distinct)
-      (subst (λ ls. IsIn y.letter ls) (letters-append m1 m2) (from_IsPart (IsPart-map letter_of (IsPart-append h k)) z)) in
+      (subst (λ ls. IsIn y.letter ls) (letters-append m1 m2) (IsIn-IsPart (IsPart-map letter_of (IsPart-append h k)) z)) in
       let more_is = closed_up-more c1 c2 y out in
       let l : ℕ = rank (letters_of (c1 ++ c2)) y.letter in
       let consistent : is_consistent (inserted (length c1) l y.cell (closed_up (c1 ++ c2))) ≡ true = ap is_consistent (sym more_is) ∙ consistent-closed_up (c1 ++ y ∷ c2) ∙ consistent_part part allows.consistent in
@@ -202,35 +188,6 @@ module _ (obstructions : List (List Point)) (p m c0 : List Point) (next : List P
         keeps = IsPart-itself c0;
       })
 
--- ---- tests of lists
-pub one-passes : {X : Type 0} (test : X → Bool) (xs : List X) → list_any test xs ≡ true → (x : X) × IsIn x xs × (test x ≡ true)
-one-passes test [] e = absurd cc
-one-passes {X} test (x ∷ xs) e = go (test x) refl e (one-passes test xs)
-  where
-    go : (b : Bool) → test x ≡ b → (b || list_any test xs) ≡ true → (list_any test xs ≡ true → (z : X) × IsIn z xs × (test z ≡ true)) → (z : X) × IsIn z (x ∷ xs) × (test z ≡ true)
-    go true f k ih = (x, here, f)
-    go false f k ih = let m = ih k in (m.0, later x m.1, m.2)
-
-pub some-passes : {X : Type 0} (test : X → Bool) {x : X} {xs : List X} → IsIn x xs → test x ≡ true → list_any test xs ≡ true
-some-passes test here e = rw e refl
-some-passes test (later {xs = xs} y h) e = rw (some-passes test h e) (or_all (test y))
-
-pub each-passes : {X : Type 0} (test : X → Bool) {x : X} {xs : List X} → IsIn x xs → list_all test xs ≡ true → test x ≡ true
-each-passes test {x = x} (here {xs = xs}) e = (and_true (test x) (list_all test xs) e).0
-each-passes test (later {xs = xs} y h) e = each-passes test h (and_true (test y) (list_all test xs) e).1
-
-pub all-pass : {X : Type 0} (test : X → Bool) (xs : List X) → ((x : X) → IsIn x xs → test x ≡ true) → list_all test xs ≡ true
-all-pass test [] f = refl
-all-pass test (x ∷ xs) f = both_true (test x) (list_all test xs) (f x here) (all-pass test xs (λ z h. f z (later x h)))
-
-pub false-from : (b : Bool) → (b ≡ true → ⊥) → b ≡ false
-false-from true f = absurd (f refl)
-false-from false f = refl
-
-pub not-both : (b : Bool) → not b ≡ true → b ≡ true → ⊥
-not-both true e f = cc
-not-both false e f = cc
-
 -- a longer part holds what a shorter one does
 holds-longer : {a b : List Point} (p : List Point) → IsPart a b → holds a p ≡ true → holds b p ≡ true
 holds-longer {a} {b} p k e =
@@ -238,7 +195,7 @@ holds-longer {a} {b} p k e =
     (occurs_decides letter_of same_cell b p).1 (record { points = h.points; chosen = IsPart-trans h.chosen k; order = h.order; fit = h.fit })
 
 one-longer : {a b : List Point} (ps : List (List Point)) → IsPart a b → list_any (λ p. holds a p) ps ≡ true → list_any (λ p. holds b p) ps ≡ true
-one-longer {a} {b} ps k e = let w = one-passes (λ p. holds a p) ps e in some-passes (λ p. holds b p) w.1 (holds-longer w.0 k w.2)
+one-longer {a} {b} ps k e = let w = which_passes (λ p. holds a p) ps e in some_passes (λ p. holds b p) w.1 (holds-longer w.0 k w.2)
 
 -- ---- the lists, one after another
 abbrev Meets : List Point → List (List (List Point)) → Type 0
@@ -257,16 +214,16 @@ reached t m allows (ps ∷ lists) c k meets rest =
         → cond b (reaches t lists (closed_up c)) (list_any (λ p. glues t.obstructions p (λ h. reaches t lists h) (cells_of p) 0 (closed_up c)) ps) ≡ true
     go true e f ih = ih c (IsPart-itself c) k (sym (any-agree (λ p. holds (closed_up c) p) (λ p. holds c p) (λ p. holds-closed_up c p) ps) ∙ e)
     go false e f ih =
-        let w = one-passes (λ p. holds m p) ps f in
-        some-passes (λ p. glues t.obstructions p (λ h. reaches t lists h) (cells_of p) 0 (closed_up c)) w.1
-        (glued-whole t.obstructions w.0 m c (λ h. reaches t lists h) allows (λ d a b h. ih d a b (some-passes (λ p. holds d p) w.1 ((occurs_decides letter_of same_cell d w.0).1 h))) ((occurs_decides letter_of same_cell m w.0).0 w.2) k)
+        let w = which_passes (λ p. holds m p) ps f in
+        some_passes (λ p. glues t.obstructions p (λ h. reaches t lists h) (cells_of p) 0 (closed_up c)) w.1
+        (glued-whole t.obstructions w.0 m c (λ h. reaches t lists h) allows (λ d a b h. ih d a b (some_passes (λ p. holds d p) w.1 ((occurs_decides letter_of same_cell d w.0).1 h))) ((occurs_decides letter_of same_cell m w.0).0 w.2) k)
 
 -- ---- members
 distinct_tells : (xs : List ℕ) → has_no_repeats xs ≡ true → NoRepeats xs
 distinct_tells [] e = no_element
 distinct_tells (x ∷ xs) e =
     let k = and_true (not (list_any (λ y. x == y) xs)) (has_no_repeats xs) e in
-    one_more (λ h. not-both (list_any (λ y. x == y) xs) k.0 (some-passes (λ y. x == y) h ((Decides-eqb x x).1 refl))) (distinct_tells xs k.1)
+    one_more (λ h. not_both (list_any (λ y. x == y) xs) k.0 (some_passes (λ y. x == y) h ((Decides-eqb x x).1 refl))) (distinct_tells xs k.1)
 
 module _ (t : Tiles) (m : List Point) (gridded : is_gridded m ≡ true) (belongs : is_member t m ≡ true) where
   avoided : list_all (λ p. not (holds m p)) t.obstructions ≡ true
@@ -279,13 +236,13 @@ module _ (t : Tiles) (m : List Point) (gridded : is_gridded m ≡ true) (belongs
   in_grid = (and_true (fits_grid t.width t.height m) (list_all (λ p. not (holds m p)) t.obstructions && list_all (λ ps. list_any (λ p. holds m p) ps) t.requirements) belongs).0
 
   not_held : (c p : List Point) → IsPart c m → IsIn p t.obstructions → holds c p ≡ false
-  not_held c p k h = false-from (holds c p) (λ e. not-both (holds m p) (each-passes (λ q. not (holds m q)) h avoided) (holds-longer p k e))
+  not_held c p k h = false_from (holds c p) (λ e. not_both (holds m p) (each_passes (λ q. not (holds m q)) avoided h) (holds-longer p k e))
 
   allowed : Allows t.obstructions m
   allowed = record {
     distinct = distinct_tells (map letter_of m) (and_true (has_no_repeats (map letter_of m)) (is_consistent m) gridded).0;
     consistent = (and_true (has_no_repeats (map letter_of m)) (is_consistent m) gridded).1;
-    avoids = λ c k. false-from (list_any (λ p. holds (closed_up c) p) t.obstructions) (λ e. let w = one-passes (λ p. holds (closed_up c) p) t.obstructions e in
+    avoids = λ c k. false_from (list_any (λ p. holds (closed_up c) p) t.obstructions) (λ e. let w = which_passes (λ p. holds (closed_up c) p) t.obstructions e in
         let no = not_held c w.0 k w.1 in let yes = sym (holds-closed_up c w.0) ∙ w.2 in absurd cc);
   }
 
@@ -293,7 +250,7 @@ module _ (t : Tiles) (m : List Point) (gridded : is_gridded m ≡ true) (belongs
   part_belongs d k e =
       both_true (fits_grid t.width t.height d) (list_all (λ p. not (holds d p)) t.obstructions && list_all (λ ps. list_any (λ p. holds d p) ps) t.requirements)
       (list_all-IsPart (λ c. nat_lt c.x t.width && nat_lt c.y t.height) (IsPart-map cell_of k) in_grid)
-      (both_true (list_all (λ p. not (holds d p)) t.obstructions) (list_all (λ ps. list_any (λ p. holds d p) ps) t.requirements) (all-pass (λ p. not (holds d p)) t.obstructions (λ p h. not_false (holds d p) (not_held d p k h))) e)
+      (both_true (list_all (λ p. not (holds d p)) t.obstructions) (list_all (λ ps. list_any (λ p. holds d p) ps) t.requirements) (all_pass (λ p. not (holds d p)) t.obstructions (λ p h. not_false (holds d p) (not_held d p k h))) e)
 
   -- a member is reached from each part of one, closed up
   pub reached-part : (c : List Point) → IsPart c m → reaches t t.requirements (closed_up c) ≡ true

@@ -18,7 +18,9 @@ use Rattle.tiling_core.specs.Measures.{weight}
 use Rattle.emptiness.specs.Emptiness.{IsEmpty, ShortLength, MembersWithinWeight, IsHeldByMember}
 use Rattle.emptiness.specs.Glueing.{reaches}
 use Rattle.emptiness.proofs.Inserted.{IsPlaced, placed}
-use Rattle.emptiness.proofs.Complete.{reached-from_member, false-from, one-passes, each-passes, not-both}
+use Rattle.emptiness.proofs.Complete.{reached-from_member}
+use Rattle.lists.proofs.Tests.{which_passes, some_passes, each_passes, all_pass}
+use Rattle.tiling_core.proofs.Deciding.{not_held as not_both, false_from}
 use Rattle.emptiness.proofs.Sound.{reaches-sound, Found}
 use Rattle.gridded.proofs.Holding.{Holds-trans}
 use Rattle.emptiness.proofs.Held.{reached-from_held}
@@ -95,7 +97,7 @@ members_within_weight t n h =
 pub empty_decides : (t : Tiles) → (reaches t t.requirements [] ≡ false → IsEmpty t) × (IsEmpty t → reaches t t.requirements [] ≡ false)
 empty_decides t = (
   (λ e n. none (count t n) (λ h. let k = reached-from_count t n h in absurd cc)),
-  (λ empty. false-from (reaches t t.requirements []) (λ e. let s = found-counted t [] _ (reaches-sound t t.requirements [] nothing-placed e) in
+  (λ empty. false_from (reaches t t.requirements []) (λ e. let s = found-counted t [] _ (reaches-sound t t.requirements [] nothing-placed e) in
       let z = empty s.size in omega (arith, s.counted))),
 )
   where
@@ -114,12 +116,12 @@ held_decides t p k = (
 
 -- where the empty pattern holds an obstruction, nothing is reached
 pub nothing_reached : (t : Tiles) → list_any (λ p. holds [] p) t.obstructions ≡ true → reaches t t.requirements [] ≡ false
-nothing_reached t e = false-from (reaches t t.requirements []) (λ r.
+nothing_reached t e = false_from (reaches t t.requirements []) (λ r.
     let f = reaches-sound t t.requirements [] nothing-placed r in
-    let w = one-passes (λ p. holds [] p) t.obstructions e in
+    let w = which_passes (λ p. holds [] p) t.obstructions e in
     let long = (occurs_decides letter_of same_cell f.found w.0).1 (Holds-trans f.found [] w.0 f.held ((occurs_decides letter_of same_cell [] w.0).0 w.2)) in
     let avoided = (and_true (list_all (λ p. not (holds f.found p)) t.obstructions) _ (and_true (fits_grid t.width t.height f.found) _ f.belongs).1).0 in
-    not-both (holds f.found w.0) (each-passes (λ p. not (holds f.found p)) w.1 avoided) long)
+    not_both (holds f.found w.0) (each_passes (λ p. not (holds f.found p)) avoided w.1) long)
 
 pub empty_answer : (t : Tiles) (r : Bool) → r ≡ reaches t t.requirements [] → IsTrue (not r) ↔ IsEmpty t
 empty_answer t r e = (

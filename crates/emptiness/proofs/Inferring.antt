@@ -4,6 +4,7 @@ use Rattle.std.specs.Prelude.{◌&&◌, ◌↔◌, ◌⊎◌, IsTrue, Decides, �
 use Rattle.std.specs.List.{list_all, list_any, AllByRecursion}
 use Rattle.std.proofs.lemmas.Bool.Decides.{nat_tests}
 use Rattle.patterns.specs.Parts.{IsIn}
+use Rattle.lists.proofs.Members.{is_in, contained, of_each}
 use Rattle.lists.specs.Members.IsIn.{here, later}
 use Rattle.patterns.proofs.Booleans.{and_true, both_true, not_false, same_test}
 use Rattle.patterns.proofs.Lists.{IsIn-map, IsIn-filter, from_IsIn-filter, IsIn-append_left, IsIn-append_right, IsIn-append_cases}
@@ -30,20 +31,6 @@ use Rattle.emptiness.proofs.Inserted.{placed}
 use Rattle.emptiness.proofs.Counted.{members_within_weight, held_decides, placed-listed}
 use Rattle.emptiness.proofs.NoMembers.{none_of_any_length, has_none}
 use Rattle.tiling_core.proofs.Further.{holding_one, from_further, none_counted}
-
--- ---- lists
-is_in : {X : Type 0} (xs : List X) (x : X) → Contains xs x → IsIn x xs
-is_in [] x (k, l, e) = absurd (omega arith)
-is_in (y ∷ xs) x (zero, l, e) = rw e here
-is_in (y ∷ xs) x (suc k, l, e) = later y (is_in xs x (k, omega arith, e))
-
-contained : {X : Type 0} {x : X} {xs : List X} → IsIn x xs → Contains xs x
-contained here = (0, omega arith, refl)
-contained (later y h) = let k = contained h in (suc k.0, omega (arith, k.1), k.2)
-
-at_each : {X : Type 0} (P : X → Type 0) {x : X} {xs : List X} → AllByRecursion P xs → IsIn x xs → P x
-at_each P h here = h.0
-at_each P h (later y m) = at_each P h.1 m
 
 -- ---- members that hold a pattern
 abbrev is_active : Tiles → Cell → Bool
@@ -82,7 +69,7 @@ no_obstruction_held t g f =
 in_the_grid : (t : Tiles) (n : ℕ) (g : List Point) → IsIn g (gridded_of t.width t.height n) → fits_grid t.width t.height g ≡ true
 in_the_grid t n g m =
     let k = from_IsIn-gridded_of t.width t.height n g m in
-    (fits_grid_decides t.width t.height g).1 (λ p i. at_each (λ c. IsCellOf t.width t.height c) k.in_grid (IsIn-map cell_of i))
+    (fits_grid_decides t.width t.height g).1 (λ p i. of_each (λ c. IsCellOf t.width t.height c) k.in_grid (IsIn-map cell_of i))
 
 one_or_two : (n : ℕ) → (n ≡ 1) ⊎ (n ≡ 2) → (nat_le 1 n && nat_le n 2) ≡ true
 one_or_two n k = ⊎_elim {C = (nat_le 1 n && nat_le n 2) ≡ true} (λ e. rw e refl) (λ e. rw e refl) k
@@ -105,7 +92,7 @@ told t n g s m e =
     record {
       small = subst (λ (l : ℕ). (l ≡ 1) ⊎ (l ≡ 2)) (sym k.as_long) s;
       listed = subst (λ (l : ℕ). IsIn g (gridded_of t.width t.height l)) (sym k.as_long) m;
-      active = λ d i. IsIn-filter (λ z. is_active t z) (IsIn-cells_in t.width t.height d (at_each (λ z. IsCellOf t.width t.height z) k.in_grid i)) (each_passes (is_active t) i c.1);
+      active = λ d i. IsIn-filter (λ z. is_active t z) (IsIn-cells_in t.width t.height d (of_each (λ z. IsCellOf t.width t.height z) k.in_grid i)) (each_passes (is_active t) i c.1);
       no_obstruction = λ o i h. not_held (list_any (holds g) t.obstructions) b.1 (some_passes (holds g) i ((holds_decides g o).1 h));
       unheld = held_by_no_member t g a.1;
     }

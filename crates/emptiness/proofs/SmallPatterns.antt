@@ -28,7 +28,9 @@ use Rattle.emptiness.specs.Glueing.{reaches}
 use Rattle.emptiness.specs.Candidates.{pairs_of, candidates_with, candidates_of, is_unheld}
 use Rattle.emptiness.specs.Emptiness.{IsInferable, IsInferredOf, IsHeldByMember}
 use Rattle.emptiness.proofs.Inserted.{IsPlaced}
-use Rattle.emptiness.proofs.Complete.{one-passes, some-passes, each-passes, all-pass, false-from, not-both}
+use Rattle.lists.proofs.Members.{of_all, each_in}
+use Rattle.lists.proofs.Tests.{which_passes, some_passes, each_passes, all_pass}
+use Rattle.tiling_core.proofs.Deciding.{not_held as not_both, false_from}
 use Rattle.emptiness.proofs.Counted.{placed-listed, held_decides}
 
 -- ---- small gridded permutations
@@ -118,15 +120,15 @@ letters-below w h n (x ∷ p) k = (letter-below w h n x k.0, letters-below w h n
 unheld_tells : (t : Tiles) (p : List Point) → IsGridded p → is_unheld t p ≡ true → ((o : List Point) → IsIn o t.obstructions → ¬ (Holds p o)) × (¬ (IsHeldByMember t p))
 unheld_tells t p g e =
     let k = and_true (not (list_any (λ o. holds p o) t.obstructions)) (not (reaches t t.requirements p)) e in (
-      (λ o m h. not-both (list_any (λ q. holds p q) t.obstructions) k.0 (some-passes (λ q. holds p q) m ((occurs_decides letter_of same_cell p o).1 h))),
-      (λ h. not-both (reaches t t.requirements p) k.1 ((held_decides t p g).1 h)),
+      (λ o m h. not_both (list_any (λ q. holds p q) t.obstructions) k.0 (some_passes (λ q. holds p q) m ((occurs_decides letter_of same_cell p o).1 h))),
+      (λ h. not_both (reaches t t.requirements p) k.1 ((held_decides t p g).1 h)),
     )
 
 unheld_from : (t : Tiles) (p : List Point) → IsGridded p → ((o : List Point) → IsIn o t.obstructions → ¬ (Holds p o)) → ¬ (IsHeldByMember t p) → is_unheld t p ≡ true
 unheld_from t p g f h =
     both_true (not (list_any (λ o. holds p o) t.obstructions)) (not (reaches t t.requirements p))
-    (not_false (list_any (λ o. holds p o) t.obstructions) (false-from (list_any (λ o. holds p o) t.obstructions) (λ e. let w = one-passes (λ o. holds p o) t.obstructions e in f w.0 w.1 ((occurs_decides letter_of same_cell p w.0).0 w.2))))
-    (not_false (reaches t t.requirements p) (false-from (reaches t t.requirements p) (λ e. h ((held_decides t p g).0 e))))
+    (not_false (list_any (λ o. holds p o) t.obstructions) (false_from (list_any (λ o. holds p o) t.obstructions) (λ e. let w = which_passes (λ o. holds p o) t.obstructions e in f w.0 w.1 ((occurs_decides letter_of same_cell p w.0).0 w.2))))
+    (not_false (reaches t t.requirements p) (false_from (reaches t t.requirements p) (λ e. h ((held_decides t p g).0 e))))
 
 in-two : {X : Type 0} (P : X → Type 0) (a b : X) → P a → P b → (x : X) → IsIn x (a ∷ b ∷ []) → P x
 in-two P a b h k _ here = h
@@ -219,26 +221,18 @@ small-candidate t (x ∷ y ∷ []) s m f =
 small-candidate t (x ∷ y ∷ z ∷ p) s m f = ⊎_elim {C = IsCandidate (active_cells t) (x ∷ y ∷ z ∷ p)} (λ e. absurd (omega arith)) (λ e. absurd (omega arith)) s
 
 -- ---- in order
-at-each : {X : Type 0} (P : X → Type 0) {x : X} {xs : List X} → IsIn x xs → All P xs → P x
-at-each P {x = x} here h = h zero x (omega arith)
-at-each P (later y m) h = at-each P m (λ k d l. h (suc k) d (omega arith))
-
-all-in : {X : Type 0} (P : X → Type 0) (xs : List X) → ((x : X) → IsIn x xs → P x) → AllByRecursion P xs
-all-in P [] f = tt
-all-in P (x ∷ xs) f = (f x here, all-in P xs (λ z m. f z (later x m)))
-
 ordered-adds_none : (xs : List (List Point)) (g : List Point) → IsIn g (in_order gridded_cmp xs) → IsIn g xs
-ordered-adds_none xs g m = at-each (λ h. IsIn h xs) m (All-in_order gridded_cmp gridded_total gridded_exact (λ h. IsIn h xs) xs (All-from_recursion (λ h. IsIn h xs) xs (all-in (λ h. IsIn h xs) xs (λ h n. n))))
+ordered-adds_none xs g m = of_all (λ h. IsIn h xs) (All-in_order gridded_cmp gridded_total gridded_exact (λ h. IsIn h xs) xs (All-from_recursion (λ h. IsIn h xs) xs (each_in (λ h. IsIn h xs) xs (λ h n. n)))) m
 
 ordered-keeps : (xs : List (List Point)) (g : List Point) → IsIn g xs → IsIn g (in_order gridded_cmp xs)
 ordered-keeps xs g m = go (list_any (λ h. gridded_eq h g) (in_order gridded_cmp xs)) refl
   where
     go : (b : Bool) → list_any (λ h. gridded_eq h g) (in_order gridded_cmp xs) ≡ b → IsIn g (in_order gridded_cmp xs)
-    go true e = let w = one-passes (λ h. gridded_eq h g) (in_order gridded_cmp xs) e in subst (λ h. IsIn h (in_order gridded_cmp xs)) ((gridded_eq_decides w.0 g).0 w.2) w.1
+    go true e = let w = which_passes (λ h. gridded_eq h g) (in_order gridded_cmp xs) e in subst (λ h. IsIn h (in_order gridded_cmp xs)) ((gridded_eq_decides w.0 g).0 w.2) w.1
     go false e =
-        let others : list_all (λ h. not (gridded_eq h g)) (in_order gridded_cmp xs) ≡ true = all-pass (λ h. not (gridded_eq h g)) (in_order gridded_cmp xs) (λ h n. not_false (gridded_eq h g) (false-from (gridded_eq h g) (λ f. let k = some-passes (λ q. gridded_eq q g) n f in absurd cc))) in
+        let others : list_all (λ h. not (gridded_eq h g)) (in_order gridded_cmp xs) ≡ true = all_pass (λ h. not (gridded_eq h g)) (in_order gridded_cmp xs) (λ h n. not_false (gridded_eq h g) (false_from (gridded_eq h g) (λ f. let k = some_passes (λ q. gridded_eq q g) n f in absurd cc))) in
         let all = sym (list_all-in_order gridded_cmp gridded_total gridded_exact (λ h. not (gridded_eq h g)) xs) ∙ others in
-        absurd (not-both (gridded_eq g g) (each-passes (λ h. not (gridded_eq h g)) m all) ((gridded_eq_decides g g).1 refl))
+        absurd (not_both (gridded_eq g g) (each_passes (λ h. not (gridded_eq h g)) all m) ((gridded_eq_decides g g).1 refl))
 
 -- the candidates that no member holds, in order
 pub inferred_in_order : (t : Tiles) (cells : List Cell) (all found patterns : List (List Point)) → cells ≡ active_cells t → all ≡ candidates_of cells → found ≡ filter (λ p. is_unheld t p) all → patterns ≡ in_order gridded_cmp found → IsInferredOf t patterns
@@ -260,4 +254,4 @@ candidate-small cells (down c d h k l m) = omega arith
 
 pub candidates-small : (cells : List Cell) (all : List (List Point)) → all ≡ candidates_of cells → All (λ p. length p ≤ 2) all
 candidates-small cells all e =
-    subst (λ xs. All (λ p. length p ≤ 2) xs) (sym e) (All-from_recursion (λ p. length p ≤ 2) (candidates_of cells) (all-in (λ p. length p ≤ 2) (candidates_of cells) (λ p m. candidate-small cells (candidates_tell cells p m))))
+    subst (λ xs. All (λ p. length p ≤ 2) xs) (sym e) (All-from_recursion (λ p. length p ≤ 2) (candidates_of cells) (each_in (λ p. length p ≤ 2) (candidates_of cells) (λ p m. candidate-small cells (candidates_tell cells p m))))

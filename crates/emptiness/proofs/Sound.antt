@@ -20,7 +20,8 @@ use Rattle.emptiness.specs.Insertion.{fits_at, inserted}
 use Rattle.emptiness.specs.Glueing.{weight_of, stands_in, joins, joins_at, falls_on, glues_at, glues, reaches}
 use Rattle.emptiness.proofs.Inserted.{IsPlaced, IsPlaced-inserted, length-inserted, Holds-inserted}
 use Rattle.gridded.proofs.Holding.{Holds-trans}
-use Rattle.emptiness.proofs.Complete.{one-passes}
+use Rattle.lists.proofs.Tests.{which_passes, some_passes, each_passes, all_pass}
+use Rattle.tiling_core.proofs.Deciding.{not_held as not_both, false_from}
 
 -- ---- a gridded permutation holds itself
 fit-itself : (g : List Point) → AllZip (λ x a. same_cell x a ≡ true) g g
@@ -66,7 +67,7 @@ module _ (t : Tiles) (p : List Point) (next : List Point → Bool) (w : ℕ) (so
 
       joined : joins_at t.obstructions (λ place k. glues t.obstructions p next cells place k) c g i ≡ true → Found t g (length g + suc (length cells) + w)
       joined f =
-          let one = one-passes (λ l. joins t.obstructions (λ place k. glues t.obstructions p next cells place k) c g i l) (range_with_len 0 (length g + 1)) f in
+          let one = which_passes (λ l. joins t.obstructions (λ place k. glues t.obstructions p next cells place k) c g i l) (range_with_len 0 (length g + 1)) f in
           let l = one.0 in
           let low = (IsIn-range_with_len 0 (length g + 1) l one.1).1 in
           let a = and_true (fits_at i l c g) (not (list_any (λ q. holds (inserted i l c g) q) t.obstructions) && glues t.obstructions p next cells (i + 1) (inserted i l c g)) one.2 in
@@ -80,7 +81,7 @@ module _ (t : Tiles) (p : List Point) (next : List Point → Bool) (w : ℕ) (so
   glues-sound [] from g h e =
       longer (length g + w) (length g + 0 + w) (omega arith) (sound g h (and_true (holds g p) (next g) e).1)
   glues-sound (c ∷ cells) from g h e =
-      let one = one-passes (λ i. glues_at t.obstructions (λ place k. glues t.obstructions p next cells place k) c g i) (range_with_len from (length g + 1 - from)) e in
+      let one = which_passes (λ i. glues_at t.obstructions (λ place k. glues t.obstructions p next cells place k) c g i) (range_with_len from (length g + 1 - from)) e in
       step c cells (glues-sound cells) g h one.0 one.2
 
 pub reaches-sound : (t : Tiles) (lists : List (List (List Point))) (g : List Point) → IsPlaced g → reaches t lists g ≡ true → Found t g (length g + weight_of lists)
@@ -95,7 +96,7 @@ reaches-sound t (ps ∷ lists) g h e = go (list_any (λ p. holds g p) ps) (λ k 
         → cond b (reaches t lists g) (list_any (λ p. glues t.obstructions p (λ k. reaches t lists k) (cells_of p) 0 g) ps) ≡ true → Found t g (length g + weight_of (ps ∷ lists))
     go true ih f = longer (length g + weight_of lists) (length g + weight_of (ps ∷ lists)) (omega (arith, sum)) (ih g h f)
     go false ih f =
-        let one = one-passes (λ p. glues t.obstructions p (λ k. reaches t lists k) (cells_of p) 0 g) ps f in
+        let one = which_passes (λ p. glues t.obstructions p (λ k. reaches t lists k) (cells_of p) 0 g) ps f in
         let k = glues-sound t one.0 (λ q. reaches t lists q) (weight_of lists) ih (cells_of one.0) 0 g h one.2 in
         let small : length one.0 ≤ longest ps = longest_in 0 one.1 in
         longer (length g + length (cells_of one.0) + weight_of lists) (length g + weight_of (ps ∷ lists)) (omega (arith, sum, length-map one.0 cell_of)) k

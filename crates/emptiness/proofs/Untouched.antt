@@ -24,7 +24,8 @@ use Rattle.emptiness.specs.ByCell.{has_point_in}
 use Rattle.emptiness.proofs.Inserted.{match-raised}
 use Rattle.gridded.proofs.Holding.{Holds-trans, holds_decides, holds_shorter}
 use Rattle.gridded.proofs.ClosedUp.{turned}
-use Rattle.emptiness.proofs.Complete.{one-passes, some-passes, all-pass, false-from}
+use Rattle.lists.proofs.Tests.{which_passes, some_passes, each_passes, all_pass}
+use Rattle.tiling_core.proofs.Deciding.{not_held as not_both, false_from}
 
 -- ---- parts without the new point
 part-put_in : {X : Type 0} (i : ℕ) (x : X) (ys : List X) {os : List X} → IsPart os (put_in i x ys) → (IsIn x os → ⊥) → IsPart os ys
@@ -60,8 +61,8 @@ held-without i l c g p e h =
 pub any-filtered : {X : Type 0} (test keep : X → Bool) (xs : List X) → ((x : X) → IsIn x xs → test x ≡ true → keep x ≡ true) → list_any test (filter keep xs) ≡ list_any test xs
 any-filtered test keep xs f =
     same_test (list_any test (filter keep xs)) (list_any test xs)
-    (λ e. let w = one-passes test (filter keep xs) e in some-passes test (from_IsIn-filter keep xs w.1).0 w.2)
-    (λ e. let w = one-passes test xs e in some-passes test (IsIn-filter keep w.1 (f w.0 w.1 w.2)) w.2)
+    (λ e. let w = which_passes test (filter keep xs) e in some_passes test (from_IsIn-filter keep xs w.1).0 w.2)
+    (λ e. let w = which_passes test xs e in some_passes test (IsIn-filter keep w.1 (f w.0 w.1 w.2)) w.2)
 
 both-ways : (b : Bool) → (b ≡ false → ⊥) → b ≡ true
 both-ways true f = refl
@@ -73,11 +74,11 @@ any-there i l c g h patterns same e =
     any-filtered (λ p. holds h p) (has_point_in c) patterns
     (λ p m k. both-ways (has_point_in c p) (λ f.
     let long = (occurs_decides letter_of same_cell (inserted i l c g) p).0 (rw (sym same) k) in
-    let held = some-passes (λ q. holds g q) m ((occurs_decides letter_of same_cell g p).1 (held-without i l c g p f long)) in cc))
+    let held = some_passes (λ q. holds g q) m ((occurs_decides letter_of same_cell g p).1 (held-without i l c g p f long)) in cc))
 
 -- what is held is no longer
 pub too_long : (g p : List Point) → length g < length p → holds g p ≡ false
-too_long g p l = false-from (holds g p) (λ k. let m = holds_shorter g p k in omega arith)
+too_long g p l = false_from (holds g p) (λ k. let m = holds_shorter g p k in omega arith)
 
 pub ruleset measuring = (too_long)
 
@@ -87,7 +88,7 @@ any-short p patterns small = any-filtered (λ o. holds p o) (λ o. nat_le (lengt
 
 -- where none is held, the rest of the test tells a member
 none-held : (g : List Point) (patterns : List (List Point)) → list_any (λ p. holds g p) patterns ≡ false → list_all (λ p. not (holds g p)) patterns ≡ true
-none-held g patterns e = all-pass (λ p. not (holds g p)) patterns (λ p m. not_false (holds g p) (false-from (holds g p) (λ k. let s = some-passes (λ q. holds g q) m k in cc)))
+none-held g patterns e = all_pass (λ p. not (holds g p)) patterns (λ p m. not_false (holds g p) (false_from (holds g p) (λ k. let s = some_passes (λ q. holds g q) m k in cc)))
 
 pub member-avoiding : (t : Tiles) (g : List Point) → list_any (λ p. holds g p) t.obstructions ≡ false → is_member t g ≡ (fits_grid t.width t.height g && list_all (λ patterns. list_any (λ p. holds g p) patterns) t.requirements)
 member-avoiding t g e = rw (none-held g t.obstructions e) refl
