@@ -1,13 +1,13 @@
 -- What stands at a place of a list, and where in a list something is.
 use Rattle.std.proofs.Common.{◌≡◌, ℕ, zero, suc, ◌+◌, ◌<◌, ◌≤◌, Bool, true, false, cond, List, [], ◌∷◌, ◌++◌, length, take, refl, sym, ap, subst, inl, inr, ⊎_elim, arith}
 use Rattle.std.specs.Prelude.{◌⊎◌, ◌||◌, ◌==◌, not, map, slice_get, slice_index, Some, None}
-use Rattle.std.specs.List.{list_any, list_all, position_or_len, AllZip}
+use Rattle.std.specs.List.{list_any, list_all, range_with_len, position_or_len, AllZip}
 use Rattle.std.proofs.lemmas.Bool.{eqb-true}
 use Rattle.std.proofs.lemmas.Bool.Decides.{nat_tests}
 use Rattle.patterns.specs.Parts.{IsIn, NoRepeats}
 use Rattle.lists.specs.Members.IsIn.{here, later}
 use Rattle.lists.specs.Members.NoRepeats.{no_element, one_more}
-use Rattle.patterns.proofs.Booleans.{and_true, or_true}
+use Rattle.patterns.proofs.Booleans.{and_true, both_true, or_true}
 use Rattle.patterns.proofs.Lists.{IsIn-map, from_IsIn-map}
 use Rattle.css_domain.specs.Ledgers.{is_among}
 use Rattle.css_domain.proofs.Determined.{at_place}
@@ -81,6 +81,10 @@ pub append_nothing : {X : Type 0} (xs : List X) → xs ++ [] ≡ xs
 append_nothing [] = refl
 append_nothing (x ∷ xs) = ap (λ ys. x ∷ ys) (append_nothing xs)
 
+pub range_more : (a n : ℕ) → range_with_len a (suc n) ≡ range_with_len a n ++ (a + n) ∷ []
+range_more a zero = let e : a + 0 ≡ a = omega arith in rw e refl
+range_more a (suc n) = let e : a + suc n ≡ a + 1 + n = omega arith in rw e (ap (λ (xs : List ℕ). a ∷ xs) (range_more (a + 1) n))
+
 -- ---- maps
 pub get-map : {X Y : Type 0} (f : X → Y) (xs : List X) (i : ℕ) (x : X) → slice_get xs i ≡ Some x → slice_get (map f xs) i ≡ Some (f x)
 get-map f [] i x h = absurd cc
@@ -114,6 +118,10 @@ distinct_by {X} {Y} {Z} f g (x ∷ xs) tells (one_more out n) =
 pub each_passes : {X : Type 0} (p : X → Bool) {x : X} {xs : List X} → IsIn x xs → list_all p xs ≡ true → p x ≡ true
 each_passes p (here {xs}) h = (and_true (p _) (list_all p xs) h).0
 each_passes p (later {xs} y i) h = each_passes p i (and_true (p y) (list_all p xs) h).1
+
+pub each_by : {X : Type 0} (p : X → Bool) (xs : List X) → ((x : X) → IsIn x xs → p x ≡ true) → list_all p xs ≡ true
+each_by p [] f = refl
+each_by p (x ∷ xs) f = both_true (p x) (list_all p xs) (f x here) (each_by p xs (λ y i. f y (later x i)))
 
 pub among_from_in : (n : ℕ) (ns : List ℕ) → IsIn n ns → is_among n ns ≡ true
 among_from_in n [] h = elim h [ ]

@@ -7,3 +7,4 @@ pub mod Ledgers
 pub mod Entries
 pub mod LedgerFacts
 pub mod Reasons
+pub mod FiledSpecs

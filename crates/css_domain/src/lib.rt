@@ -16,6 +16,6 @@ mod tests;
 
 pub use domain::Domain;
 pub use filing::Filing;
-pub use laws::counts_are_determined;
+pub use laws::{counts_are_determined, filed_specs_stand};
 pub use record::Record;
 pub use shape::{Shape, same_length};

@@ -1,6 +1,6 @@
 use crate::domain::Domain;
 use crate::filing::Filing;
-use crate::laws::counts_are_determined;
+use crate::laws::{counts_are_determined, filed_specs_stand};
 use crate::record::Record;
 use crate::shape::{Shape, same_length};
 use sequences::Sequence;
@@ -98,4 +98,5 @@ fn a_record_is_its_parts(rt: HostRuntime) {
 #[test]
 fn laws_compute_nothing() {
     counts_are_determined::<Numbers>();
+    filed_specs_stand::<Numbers>();
 }

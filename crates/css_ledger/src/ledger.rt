@@ -178,7 +178,7 @@ impl<D: Domain> Ledger<D> {
 
     /// The class of a number. Takes no memory.
     pub fn class(&self, number: u32) -> &D::Class
-        requires { number < length (classes D.meaning self.now) }
+        requires number { number < length (classes D.meaning self.now) }
         ensures { slice_get (classes D.meaning self.now) number ≡ Some result.now }
     {
         &self.classes.as_slice()[number as usize]
@@ -186,7 +186,7 @@ impl<D: Domain> Ledger<D> {
 
     /// The rule at a position. Takes no memory.
     pub fn rule(&self, position: u32) -> &D::Rule
-        requires { position < length self.now.rules }
+        requires position { position < length self.now.rules }
         ensures { slice_get self.now.rules position ≡ Some result.now }
     {
         &self.rules[position as usize]
@@ -203,7 +203,7 @@ impl<D: Domain> Ledger<D> {
 
     /// Whether the class of a number is done. Takes no memory.
     pub fn is_done(&self, number: u32) -> bool
-        requires { number < length (classes D.meaning self.now) }
+        requires number { number < length (classes D.meaning self.now) }
         ensures { result ≡ is_among number (done self.now) }
     {
         done_at(self.stages.as_slice(), number as usize)
@@ -211,7 +211,7 @@ impl<D: Domain> Ledger<D> {
 
     /// The number of a class and of its rules, at a place of the journal. Takes no memory.
     pub fn filed(&self, place: u32) -> (u32, u32)
-        requires { place < length self.now.journal }
+        requires place { place < length self.now.journal }
         ensures { slice_get self.now.journal place ≡ Some result }
     {
         self.journal[place as usize]

@@ -1,0 +1,97 @@
+ghost use Rattle.std.specs.Prelude.{◌≡◌, ◌≤◌, [], length, IfOk};
+ghost use Rattle.std.specs.List.{range_with_len};
+ghost use Rattle.css_domain.specs.Ledgers.{classes, records, done};
+ghost use Rattle.css_domain.specs.LedgerFacts.{IsLedger};
+ghost use Rattle.css_domain.specs.Reasons.{Alone, EndsFor};
+ghost use Rattle.css_prune.specs.Pruning.{IsPruned};
+ghost use Rattle.css_crew.specs.Ways.{Goes, reason_as};
+
+use crate::expander::Expander;
+use crate::reason::Reason;
+use css_domain::Domain;
+use css_ledger::{Claimed, Ledger};
+use css_prune::{Pruned, prune};
+use std::alloc::{AllocError, Global};
+
+/// Which classes stand among the records of a ledger, with their ranks and picks.
+fn standing<D: Domain>(alloc: Global, ledger: &Ledger<D>) -> Result<Pruned, AllocError>
+    ensures ledger { IsLedger D.meaning ledger.now }
+    ensures pruned { IfOk result (λ pruned. IsPruned (records D.meaning ledger.now) (length (classes D.meaning ledger.now)) pruned) }
+{
+    let classes = ledger.counts().classes;
+    let records = ledger.records(alloc)?;
+    prune(alloc, records.as_slice(), classes)
+}
+
+/// Files the least fresh class, where none is out. Answers why none is filed, where none is; then the ledger is
+/// as before. The refusal is want of memory.
+fn file_next<D: Domain, E: Expander<D>>(
+    alloc: Global,
+    ledger: &mut Ledger<D>,
+    expander: &E,
+) -> Result<Option<Reason>, AllocError>
+    requires out { ledger.old.out ≡ [] }
+    requires turn { done ledger.old ≡ range_with_len 0 (length ledger.old.journal) }
+    requires rulebook { ledger.old.rulebook ≡ E.rulebook_of expander.now }
+    ensures { IfOk result (λ end. Goes D.meaning ledger.old ledger.new end) }
+{
+    match ledger.claim() {
+        Claimed::Work(pack) => {
+            let Ok(filing) = expander.expand(alloc, ledger.class(pack.number())) else {
+                ledger.give_back(pack);
+                return Err(AllocError);
+            };
+            let Err((pack, _)) = ledger.file(pack, filing) else {
+                return Ok(None);
+            };
+            ledger.give_back(pack);
+            Err(AllocError)
+        }
+        Claimed::Spent => Ok(Some(Reason::Budget)),
+        Claimed::Idle => Ok(Some(Reason::Exhausted)),
+        Claimed::Finished => Ok(Some(Reason::Exhausted)),
+    }
+}
+
+/// The ledger that one worker fills, what stands among its records, and why it ends.
+#[derive(Drop)]
+struct Searched<D: Domain> {
+    ledger: Ledger<D>,
+    pruned: Pruned,
+    reason: Reason,
+}
+
+/// Fills a ledger class by class, and prunes it after each filing, until the root stands, all classes are done
+/// or the budget is spent. The refusal is want of memory.
+fn search<D: Domain, E: Expander<D>>(
+    alloc: Global,
+    root: D::Class,
+    budget: u32,
+    expander: &E,
+) -> Result<Searched<D>, AllocError>
+    requires some { 1 ≤ budget }
+    requires few { budget ≤ 5000 }
+    ensures alone { IfOk result (λ searched. Alone D.meaning root budget (E.rulebook_of expander.now) searched.ledger) }
+    ensures reason { IfOk result (λ searched. EndsFor D.meaning searched.ledger (reason_as searched.reason)) }
+    ensures ledger { IfOk result (λ searched. IsLedger D.meaning searched.ledger) }
+    ensures pruned { IfOk result (λ searched. IsPruned (records D.meaning searched.ledger) (length (classes D.meaning searched.ledger)) searched.pruned) }
+{
+    let mut ledger = Ledger::new(alloc, root, budget, expander.rulebook())?;
+    loop {
+        let pruned = standing(alloc, &ledger)?;
+        if pruned.keep.as_slice()[0] {
+            return Ok(Searched {
+                ledger,
+                pruned,
+                reason: Reason::Found,
+            });
+        }
+        if let Some(reason) = file_next(alloc, &mut ledger, expander)? {
+            return Ok(Searched {
+                ledger,
+                pruned,
+                reason,
+            });
+        }
+    }
+}

@@ -1,0 +1,9 @@
+//! Filling a ledger until a specification stands, or nothing is left to file (docs/RULES.md, "One worker").
+#![tactic(auto)]
+
+mod alone;
+mod expander;
+mod reason;
+
+pub use expander::Expander;
+pub use reason::Reason;
