@@ -88,7 +88,21 @@ kept_by_a_list : step_applies (Column 0) (tiling_of 1 1 (dot 0 ∷ []) ((dot 0 �
 unfolding X.occurs S.step_applies S.step_result
 kept_by_a_list = refl
 
+-- where a column and a row can go, the column goes first
+columns_first : first_step (tiling_of 3 3 (dot 0 ∷ dot 1 ∷ dot 2 ∷ dot 10 ∷ dot 20 ∷ up 11 22 ∷ []) []) ≡ Some (Column 0)
+unfolding X.occurs S.step_applies S.step_result
+columns_first = refl
+
+column_then_row : replay (tiling_of 3 3 (dot 0 ∷ dot 1 ∷ dot 2 ∷ dot 10 ∷ dot 20 ∷ up 11 22 ∷ []) []) (Column 0 ∷ Row 0 ∷ []) ≡ Some (tiling_of 2 2 (up 0 11 ∷ []) [])
+unfolding X.occurs S.step_applies S.step_result
+column_then_row = refl
+
 -- ---- Lists
+-- of three lists that imply each other in turn the strongest stays
+strongest_list : step_result Lists (tiling_of 2 1 [] ((dot 0 ∷ []) ∷ (dot 0 ∷ dot 10 ∷ []) ∷ (up 0 10 ∷ []) ∷ [])) ≡ tiling_of 2 1 [] ((up 0 10 ∷ []) ∷ [])
+unfolding X.occurs S.step_applies S.step_result
+strongest_list = refl
+
 -- a list whose members hold those of another implies it
 implied_list : step_result Lists (tiling_of 1 1 [] ((dot 0 ∷ []) ∷ (up 0 0 ∷ down 0 0 ∷ []) ∷ [])) ≡ tiling_of 1 1 [] ((up 0 0 ∷ down 0 0 ∷ []) ∷ [])
 unfolding X.occurs S.step_applies S.step_result
@@ -147,6 +161,11 @@ clean_list = refl
 clean_longer_list : step_result (Clean (cell 0)) (beside [] ((dot 0 ∷ dot 11 ∷ []) ∷ [])) ≡ beside [] (([] ∷ dot 11 ∷ []) ∷ [])
 unfolding X.occurs S.step_applies S.step_result
 clean_longer_list = refl
+
+-- a member with two points in the cell keeps both
+two_points_stay : step_result (Clean (cell 0)) (tiling_of 1 1 (up 0 0 ∷ down 0 0 ∷ []) ((dot 0 ∷ []) ∷ (dot 0 ∷ up 0 0 ∷ []) ∷ [])) ≡ tiling_of 1 1 (up 0 0 ∷ down 0 0 ∷ []) ((dot 0 ∷ []) ∷ ([] ∷ up 0 0 ∷ []) ∷ [])
+unfolding X.occurs S.step_applies S.step_result
+two_points_stay = refl
 
 clean_nothing : step_applies (Clean (cell 0)) (beside (up 11 11 ∷ []) []) ≡ false
 unfolding X.occurs S.step_applies S.step_result

@@ -65,7 +65,9 @@ pub(crate) fn is_isolated(tiling: &Tiling, cell: Cell) -> bool
     if !requires_pattern(tiling, &Gridded::point_at(cell)) {
         return false;
     }
-    if !forbids(tiling, &Gridded::rising(cell, cell)) || !forbids(tiling, &Gridded::falling(cell, cell)) {
+    if !forbids(tiling, &Gridded::rising(cell, cell))
+        || !forbids(tiling, &Gridded::falling(cell, cell))
+    {
         return false;
     }
     is_alone_on(tiling, Axis::Column, cell) && is_alone_on(tiling, Axis::Row, cell)
