@@ -15,3 +15,4 @@ pub mod PartPlaces
 pub mod SmallFits
 pub mod SetCells
 pub mod Pairs
+mod Rows

@@ -64,6 +64,24 @@ fn a_pattern_is_held_in_its_cells(rt: HostRuntime) -> Result<(), Fail> {
 }
 
 #[test]
+fn small_patterns_are_made(rt: HostRuntime) -> Result<(), Fail> {
+    let lower = cell(0, 0);
+    let upper = cell(1, 1);
+    assert!(rt; Gridded::empty().is_empty());
+    assert_eq!(rt; Gridded::point_at(upper).cells(), [upper].as_slice());
+    assert!(rt; !Gridded::point_at(upper).fits_grid(1, 2));
+    assert_eq!(rt;
+        Gridded::rising(lower, upper).letters(),
+        [0u8, 1].as_slice()
+    );
+    assert_eq!(rt;
+        Gridded::falling(upper, upper).letters(),
+        [1u8, 0].as_slice()
+    );
+    Ok(())
+}
+
+#[test]
 fn what_is_left_closes_up(rt: HostRuntime) -> Result<(), Fail> {
     let alloc = rt.alloc();
     let whole = three(alloc)?;
@@ -85,6 +103,12 @@ fn a_set_has_its_cells(rt: HostRuntime) -> Result<(), Fail> {
     assert!(rt; set.has(cell(7, 7)));
     assert!(rt; !set.has(cell(0, 2)));
     assert!(rt; set == set.copy(rt.alloc())?);
+    let cells = set.cells(rt.alloc())?;
+    assert_eq!(rt;
+        cells.as_slice(),
+        [cell(1, 5), cell(2, 0), cell(7, 7)].as_slice()
+    );
+    assert!(rt; none.is_empty());
     assert!(rt; set != none);
     Ok(())
 }

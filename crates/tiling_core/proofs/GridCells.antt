@@ -196,7 +196,7 @@ active_from_numbers t forbidden set number last k l e f =
     (λ c m. rw (is_below (bit_of c) 64 (omega (arith, m.0, m.1))) (ap (λ b. nat_lt c.x t.width && nat_lt c.y t.height && not b) (ap (λ s. has_cell s c) e ∙ is_among-cells_that (λ d. is_among t.obstructions (point_at d)) c m)))
     ∙ cells_within t.width t.height (λ c. not (forbids t (point_at c))) k l
 
-among_decides : (patterns : List (List Point)) (g : List Point) → Decides (is_among patterns g) (IsIn g patterns)
+pub among_decides : (patterns : List (List Point)) (g : List Point) → Decides (is_among patterns g) (IsIn g patterns)
 among_decides patterns g = (
   (λ e. let k = one_passes (gridded_eq g) patterns e in let same = (gridded_eq_decides g k.0).0 k.2 in rw same k.1),
   (λ m. some_passes (gridded_eq g) m ((gridded_eq_decides g g).1 refl)),

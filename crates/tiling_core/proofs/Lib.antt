@@ -8,3 +8,5 @@ pub mod Single
 pub mod Minimal
 pub mod GridCells
 pub mod Further
+pub mod Joined
+mod Rows

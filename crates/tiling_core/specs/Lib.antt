@@ -8,3 +8,4 @@ pub mod Carried
 pub mod Patterns
 pub mod Roots
 pub mod Counts
+pub mod Order

@@ -10,6 +10,7 @@ mod measures;
 mod membership;
 mod outside;
 mod parts;
+mod singles;
 #[cfg(test)]
 mod tests;
 mod tiling;
@@ -19,7 +20,8 @@ pub use laws::{
     counts_add_up, insertion_adds_up, membership_is_decided, minimal_obstructions_suffice,
     root_counts_avoiders, single_tilings,
 };
+pub use made::read_patterns;
 pub use measures::{positive, weight};
-pub use membership::member;
+pub use membership::{holds_one, member};
 pub use outside::TilingFault;
 pub use tiling::Tiling;

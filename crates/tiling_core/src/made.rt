@@ -38,8 +38,9 @@ fn each_kept(lists: Vec<Sequence<Gridded>>) -> Result<Vec<Sequence<Gridded>>, Al
     Ok(ordered)
 }
 
-/// Reads each pattern, so that what its type keeps is known of the list. Takes no memory.
-fn read_patterns(patterns: &[Gridded])
+/// Tells what every gridded permutation keeps, of each pattern, to a caller that needs the facts alone. Takes no
+/// memory.
+pub fn read_patterns(patterns: &[Gridded])
     ensures { AreGridded patterns.now }
 {
     for pattern in patterns {
@@ -102,9 +103,6 @@ impl Tiling {
         ensures refused { IfErr result (λ fault. IsRefused width height obstructions.items requirements.items fault) }
     {
         check(width, height, &obstructions, &requirements)?;
-        match Tiling::in_grid(width, height, obstructions, requirements) {
-            Ok(tiling) => Ok(tiling),
-            Err(_) => Err(TilingFault::Memory),
-        }
+        Ok(Tiling::in_grid(width, height, obstructions, requirements)?)
     }
 }

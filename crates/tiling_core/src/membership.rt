@@ -3,20 +3,11 @@ ghost use Rattle.std.specs.List.{list_all, list_any};
 ghost use Rattle.gridded.specs.Grids.{holds};
 ghost use Rattle.gridded.specs.Places.{fits_grid};
 ghost use Rattle.tiling_core.specs.Tiles.{is_member};
-ghost use Rattle.tiling_core.specs.Members.{Member};
+ghost use Rattle.tiling_core.specs.Members.{Member, HoldsOneOf};
 
 use crate::tiling::Tiling;
 use gridded::{Gridded, holds};
 use sequences::Sequence;
-
-/// Whether the cells lie in a grid.
-pub(crate) fn fits_grid(g: &Gridded, width: u8, height: u8) -> bool
-    ensures { result ≡ fits_grid width height g.now }
-{
-    g.cells()
-        .iter()
-        .all(|cell| cell.x < width && cell.y < height)
-}
 
 /// Whether none of the patterns is held.
 fn holds_none(g: &Gridded, patterns: &[Gridded]) -> bool
@@ -26,10 +17,18 @@ fn holds_none(g: &Gridded, patterns: &[Gridded]) -> bool
 }
 
 /// Whether some pattern is held.
-fn holds_one(g: &Gridded, patterns: &[Gridded]) -> bool
+fn any_held(g: &Gridded, patterns: &[Gridded]) -> bool
     ensures { result ≡ list_any (λ p. holds g.now p) patterns.now }
 {
     patterns.iter().any(|pattern| holds(g, pattern))
+}
+
+/// Whether one of the patterns is held. Takes no memory.
+pub fn holds_one(g: &Gridded, patterns: &[Gridded]) -> bool
+    ensures value { result ≡ list_any (λ p. holds g.now p) patterns.now }
+    ensures meaning { IsTrue result ↔ HoldsOneOf g.now patterns.now }
+{
+    any_held(g, patterns)
 }
 
 /// Whether a pattern of each list is held.
@@ -38,14 +37,14 @@ fn holds_each(g: &Gridded, lists: &[Sequence<Gridded>]) -> bool
 {
     lists
         .iter()
-        .all(|patterns| holds_one(g, patterns.as_slice()))
+        .all(|patterns| any_held(g, patterns.as_slice()))
 }
 
 /// Whether a gridded permutation passes the tests of a member.
 fn passes(tiling: &Tiling, g: &Gridded) -> bool
     ensures { result ≡ is_member tiling.now g.now }
 {
-    fits_grid(g, tiling.width(), tiling.height())
+    g.fits_grid(tiling.width(), tiling.height())
         && holds_none(g, tiling.obstructions())
         && holds_each(g, tiling.requirements())
 }

@@ -3,20 +3,35 @@ ghost use Rattle.tiling_core.specs.Tiles.{IsInGrid, IsKept};
 ghost use Rattle.tiling_core.specs.Outside.{IsFirstOutside};
 ghost use Rattle.tiling_core.specs.Refused.{IsAccepted, IsRefused};
 
-use crate::membership::fits_grid;
 use gridded::Gridded;
 use sequences::Sequence;
+use std::alloc::AllocError;
+use thiserror::Error;
 
 /// Why there is no tiling.
-#[derive(Debug, PartialEq, Eq, Drop)]
+#[derive(Debug, PartialEq, Eq, Drop, Error)]
 pub enum TilingFault {
     /// A side is over 8.
+    #[error("a side is over 8")]
     Side,
     /// The pattern at `index` of `list` is the first with a cell outside the grid. List 0 is the obstructions,
     /// list k the k-th requirement list.
+    #[error("pattern {index} of list {list} has a cell outside the grid")]
     Outside { list: u32, index: u32 },
     /// There was no memory.
+    #[error("out of memory")]
     Memory,
+}
+
+impl From<AllocError> for TilingFault {
+    ghost use Rattle.std.specs.Prelude.{◌≡◌};
+    ghost use Rattle.tiling_core.specs.declared.outside.TilingFault.TheVariants.{Memory};
+
+    ghost from_gives = { λ _ fault. fault ≡ Memory };
+
+    fn from(_error: AllocError) -> TilingFault {
+        TilingFault::Memory
+    }
 }
 
 /// The place of the first pattern with a cell outside a grid.
@@ -24,7 +39,7 @@ fn first_outside(patterns: &[Gridded], width: u8, height: u8) -> Option<usize>
     ensures { MatchOption result (IsInGrid width height patterns.now) (λ index. IsFirstOutside width height patterns.now index) }
 {
     for (index, pattern) in patterns.iter().enumerate() {
-        if !fits_grid(pattern, width, height) {
+        if !pattern.fits_grid(width, height) {
             return Some(index);
         }
     }

@@ -1,10 +1,11 @@
 ghost use Rattle.std.specs.Prelude.{◌≡◌, ◌≤◌, ◌<◌, IfOk, length};
 ghost use Rattle.gridded.specs.Grids.{points};
 
-use crate::{Tiling, TilingFault, active, member, positive, weight};
+use crate::{Tiling, TilingFault, active, holds_one, member, positive, read_patterns, weight};
 use gridded::{Cell, Gridded, GriddedFault};
 use sequences::{Copied, Sequence};
 use std::alloc::{AllocError, Global};
+use std::cmp::Ordering;
 use std::test::Fail;
 
 const fn cell(x: u8, y: u8) -> Cell
@@ -98,6 +99,21 @@ fn requirements_are_met(rt: HostRuntime) -> Result<(), Fail> {
     assert_eq!(rt; weight(&tiling), 1);
     assert!(rt; !member(&tiling, &Gridded::of(alloc, &[], &[])?));
     assert!(rt; member(&tiling, &point(alloc, 0, 0)?));
+    Ok(())
+}
+
+#[test]
+fn single_tilings_are_made_and_ordered(rt: HostRuntime) -> Result<(), Fail> {
+    let alloc = rt.alloc();
+    let unit = Tiling::unit(alloc)?;
+    let one = Tiling::point(alloc)?;
+    let void = Tiling::void(alloc)?;
+    assert!(rt; unit.cmp(&void) == Ordering::Less);
+    assert!(rt; void.cmp(&one) == Ordering::Less);
+    assert!(rt; void.forbids(&Gridded::empty()));
+    assert!(rt; !holds_one(&Gridded::empty(), one.obstructions()));
+    read_patterns(one.obstructions());
+    one.read();
     Ok(())
 }
 

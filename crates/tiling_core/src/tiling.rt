@@ -5,12 +5,14 @@ ghost use Rattle.tiling_core.specs.Same.{tiles_eq};
 use gridded::Gridded;
 use sequences::{Copied, Exact, Sequence};
 use std::alloc::{AllocError, Global};
+use std::cmp::Ordering;
 use std::marker::Model;
 
 /// A tiling with sides of 0 to 8. Every cell of a pattern lies in the grid, the obstructions and each
 /// requirement list ascend without repeats, and so does the list of lists; each has fewer than 268,435,456
-/// items (docs/RULES.md, "Tilings"). Two tilings are equal exactly where contracts see the same value.
-#[derive(Debug, Drop, PartialOrd, Ord, Hash)]
+/// items (docs/RULES.md, "Tilings"). Two tilings are equal exactly where contracts see the same value; they are
+/// ordered by width, height, obstructions, then requirement lists.
+#[derive(Debug, Drop, Hash)]
 pub struct Tiling {
     pub(crate) width: u8,
     pub(crate) height: u8,
@@ -39,6 +41,13 @@ impl Tiling {
             && self.height == other.height
             && self.obstructions == other.obstructions
             && self.requirements == other.requirements
+    }
+
+    /// Tells what every tiling keeps, to a caller that needs the facts alone. Does nothing.
+    pub fn read(&self)
+        ensures { IsTiling self.now }
+    {
+        let _ = &self.width;
     }
 
     /// The number of columns, 0 to 8. Takes no memory.
@@ -118,6 +127,45 @@ impl Eq for Tiling {
     ghost use Rattle.tiling_core.specs.Same.{tiles_equiv};
 
     ghost laws = { tiles_equiv };
+}
+
+impl PartialOrd for Tiling {
+    ghost use Rattle.std.specs.Ordering.{as_partial_cmp};
+    ghost use Rattle.tiling_core.specs.Order.{tiles_cmp, tiles_order};
+
+    ghost partial_cmp = { as_partial_cmp tiles_cmp };
+
+    ghost laws = { tiles_order };
+
+    fn partial_cmp(&self, other: &Tiling) -> Option<Ordering> {
+        Some(self.cmp(other))
+    }
+}
+
+impl Ord for Tiling {
+    ghost use Rattle.std.specs.Prelude.{refl};
+    ghost use Rattle.tiling_core.specs.Order.{tiles_cmp, tiles_total, tiles_ties};
+
+    ghost cmp = { tiles_cmp };
+
+    ghost total = { tiles_total };
+
+    ghost matches_partial_cmp = { λ x y. refl };
+
+    ghost matches_eq = { tiles_ties };
+
+    fn cmp(&self, other: &Tiling) -> Ordering {
+        match self.width.cmp(&other.width) {
+            Ordering::Equal => match self.height.cmp(&other.height) {
+                Ordering::Equal => match self.obstructions.cmp(&other.obstructions) {
+                    Ordering::Equal => self.requirements.cmp(&other.requirements),
+                    unequal => unequal,
+                },
+                unequal => unequal,
+            },
+            unequal => unequal,
+        }
+    }
 }
 
 impl Copied for Tiling {
