@@ -1,3 +1,4 @@
 pub mod Pruning
 pub mod Marks
 pub mod Faults
+pub mod Places

@@ -5,6 +5,7 @@
 mod entry;
 mod faults;
 mod gift;
+mod order;
 mod pruned;
 mod round;
 mod spec;
