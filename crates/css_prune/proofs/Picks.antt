@@ -109,16 +109,17 @@ module _ {C R : Type 0} (D : Meaning C R) (own : (c : C) → D.same c c ≡ true
     abbrev order : List ℕ
     order = order_from root ch (length (classes D l))
 
-    all_kept : (c : ℕ) → IsIn c order → K c ≡ true
+    pub all_kept : (c : ℕ) → IsIn c order → K c ≡ true
     all_kept c i = order_all root ch (λ d. K d ≡ true) stands child_kept (length (classes D l)) c i
 
     short : length order ≤ length (classes D l)
     short = order_short root ch (length (classes D l)) (length (classes D l)) (λ c i. kept_below c (all_kept c i))
 
+    pub any_in_order : (i c d : ℕ) → slice_get order i ≡ Some c → IsIn d (ch c) → list_any (nat_eq d) order ≡ true
+    any_in_order i c d at j = let w = slice_get_within order i c at in order_closed root ch (length (classes D l)) i c (omega (arith, w, short)) at d j
+
     child_in_order : (i c d : ℕ) → slice_get order i ≡ Some c → IsIn d (ch c) → slice_get order (position_or_len (nat_eq d) order) ≡ Some d
-    child_in_order i c d at j =
-        let w = slice_get_within order i c at in
-        found_at nat_eq (λ a b e. eqb-true a b e) d order (order_closed root ch (length (classes D l)) i c (omega (arith, w, short)) at d j)
+    child_in_order i c d at j = found_at nat_eq (λ a b e. eqb-true a b e) d order (any_in_order i c d at j)
 
     module _ (entries : List (Entry C R)) (picks : AllZip (λ c e. IsPickOf D l K order c e) order entries) where
       module _ (i c : ℕ) (e : Entry C R) (at : slice_get order i ≡ Some c) (p : IsPickOf D l K order c e) where

@@ -2,3 +2,4 @@ pub mod Pruning
 pub mod Marks
 pub mod Faults
 pub mod Places
+pub mod Extracting

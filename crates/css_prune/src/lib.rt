@@ -6,11 +6,13 @@ mod entry;
 mod faults;
 mod gift;
 mod order;
+mod picked;
 mod pruned;
 mod round;
 mod spec;
 
 pub use entry::Entry;
 pub use faults::SpecFault;
+pub use picked::extract;
 pub use pruned::{Pruned, prune};
 pub use spec::Spec;

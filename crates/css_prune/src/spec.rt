@@ -66,3 +66,12 @@ impl<D: Domain> Spec<D> {
         entries
     }
 }
+
+/// The specification of entries that are one. Takes no memory.
+pub fn spec_of<D: Domain>(entries: Vec<Entry<D>>) -> Spec<D>
+    requires spec { IsSpec D.meaning entries.items }
+    requires few { length entries.items < 2 ^ 28 }
+    ensures { result ≡ entries.items }
+{
+    Spec { entries }
+}
