@@ -1,18 +1,17 @@
 -- One more filing leads on, and at the end the ledger is that of one worker.
-use Rattle.std.proofs.Common.{◌≡◌, ℕ, zero, suc, ◌+◌, ◌-◌, ◌<◌, ◌≤◌, Bool, true, false, List, [], ◌∷◌, ◌++◌, length, take, length-append, refl, sym, ap, subst, ◌∙◌, inl, inr, ⊎_elim, arith}
-use Rattle.std.specs.Prelude.{◌⊎◌, map, flat_map, slice_get, Option, Some, None, sum_by}
+use Rattle.std.proofs.Common.{◌≡◌, ℕ, suc, ◌+◌, ◌<◌, ◌≤◌, Bool, true, false, List, [], ◌∷◌, ◌++◌, length, take, length-append, refl, sym, ap, subst, ◌∙◌, inl, inr, ⊎_elim, arith}
+use Rattle.std.specs.Prelude.{flat_map, slice_get, Option, Some, None, sum_by}
 use Rattle.std.specs.List.{range_with_len}
-use Rattle.std.proofs.lemmas.List.{length-map, map-append}
+use Rattle.std.proofs.lemmas.List.{map-append}
 use Rattle.std.proofs.lemmas.Option.{slice_get_within}
 use Rattle.patterns.specs.Parts.{IsIn, NoRepeats}
 use Rattle.lists.specs.Members.IsIn.{here, later}
 use Rattle.patterns.proofs.Lists.{IsIn-append_cases, IsIn-map}
 use Rattle.patterns.proofs.NoRepeat.{NoRepeats-range_with_len}
 use Rattle.css_domain.specs.Meanings.{Meaning}
-use Rattle.css_domain.specs.Ledgers.{Books, filings, classes, records, done, is_all_done, after_filings, with_filing, without, new_books}
+use Rattle.css_domain.specs.Ledgers.{Books, filings, classes, done, after_filings, with_filing, without, new_books}
 use Rattle.css_domain.specs.LedgerFacts.{IsLedger}
 use Rattle.css_domain.specs.Reasons.{AreFilingsComplete, RootStands, Stops, EndsFor, Alone}
-use Rattle.css_domain.proofs.Determined.{at_place}
 use Rattle.css_domain.proofs.Ways.{less_or_whole}
 use Rattle.css_domain.proofs.Growing.{grows}
 use Rattle.css_domain.proofs.Filings.{filings_more, classes_more, before_more, rules_of_filings, length-filings, firsts}
@@ -20,7 +19,7 @@ use Rattle.css_domain.proofs.Classes.{done_within}
 use Rattle.css_domain.proofs.Finding.{get_left, take_whole, range_more}
 use Rattle.css_crew.specs.declared.reason.Reason.{Reason as Answer}
 use Rattle.css_crew.specs.declared.reason.Reason.TheVariants.{Found as IsFound, Budget as IsBudget, Exhausted as IsExhausted}
-use Rattle.css_crew.specs.Ways.{IsExpansion, IsOnTheWay, IsNext, FilesNone, Goes, reason_as}
+use Rattle.css_crew.specs.Ways.{IsOnTheWay, IsNext, FilesNone, Goes, reason_as}
 
 none_in : {X : Type 0} {x : X} → IsIn x [] → ⊥
 none_in h = elim h [ ]

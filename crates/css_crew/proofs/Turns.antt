@@ -1,21 +1,16 @@
 -- Claims in turn, and one more filing.
-use Rattle.std.proofs.Common.{◌≡◌, ℕ, zero, suc, ◌+◌, ◌-◌, ◌<◌, ◌≤◌, Bool, true, false, cond, List, [], ◌∷◌, ◌++◌, length, take, length-append, refl, sym, ap, subst, ◌∙◌, inl, inr, ⊎_elim, arith}
-use Rattle.std.specs.Prelude.{◌⊎◌, ◌&&◌, ◌==◌, not, map, filter, flat_map, slice_get, Some, IsTrue, if◌then◌else◌}
-use Rattle.std.specs.List.{list_any, list_all, range_with_len}
+use Rattle.std.proofs.Common.{◌≡◌, ℕ, zero, suc, ◌+◌, ◌<◌, ◌≤◌, Bool, true, false, cond, List, [], ◌∷◌, ◌++◌, length, refl, sym, ap, subst, ◌∙◌, ⊎_elim, arith}
+use Rattle.std.specs.Prelude.{◌&&◌, ◌==◌, not, filter, if◌then◌else◌}
+use Rattle.std.specs.List.{range_with_len}
 use Rattle.std.proofs.lemmas.Bool.{eqb-true}
-use Rattle.std.proofs.lemmas.List.{length-map, map-append}
-use Rattle.std.proofs.lemmas.Option.{slice_get_within}
-use Rattle.patterns.specs.Parts.{IsIn, NoRepeats}
-use Rattle.lists.specs.Members.IsIn.{here, later}
+use Rattle.std.proofs.lemmas.List.{length-map}
+use Rattle.patterns.specs.Parts.{IsIn}
+use Rattle.lists.specs.Members.IsIn.{here}
 use Rattle.patterns.proofs.Booleans.{and_true, both_true}
-use Rattle.patterns.proofs.Lists.{IsIn-append_cases, IsIn-map}
-use Rattle.patterns.proofs.NoRepeat.{IsIn-range_with_len, in_range_with_len, NoRepeats-range_with_len}
+use Rattle.patterns.proofs.NoRepeat.{IsIn-range_with_len, in_range_with_len}
 use Rattle.css_domain.specs.Meanings.{Meaning}
-use Rattle.css_domain.specs.Ledgers.{Books, filings, classes, records, done, is_among, fresh, work, Claimed, claimed, is_all_done, all_numbers, after_filings, with_filing, with_work, without, new_books}
+use Rattle.css_domain.specs.Ledgers.{Books, classes, done, is_among, fresh, work, Claimed, claimed, is_all_done, with_filing, with_work, without}
 use Rattle.css_domain.specs.Ledgers.Claimed.{Finished, Spent, Work, Idle}
-use Rattle.css_domain.specs.LedgerFacts.{IsLedger}
-use Rattle.css_domain.specs.Reasons.{AreFilingsComplete, RootStands, Stops, Alone}
-use Rattle.css_domain.proofs.Determined.{at_place}
 use Rattle.css_domain.proofs.Ways.{less_or_whole}
 use Rattle.std.specs.Ordering.{nat_cmp}
 use Rattle.sequences.specs.Ascending.{insert_new}

@@ -4,7 +4,8 @@ use Rattle.std.specs.List.{range_with_len}
 use Rattle.css_domain.specs.Meanings.{Meaning}
 use Rattle.css_domain.specs.Ledgers.{Books, classes, done, is_all_done, after_filings, with_filing}
 use Rattle.css_domain.specs.LedgerFacts.{IsFilingOf}
-use Rattle.css_domain.specs.Reasons.{Reason, AreFilingsComplete, Stops}
+use Rattle.css_domain.specs.Entries.{Entry, Picked}
+use Rattle.css_domain.specs.Reasons.{Reason, AreFilingsComplete, RootStands, Stops}
 use Rattle.css_domain.specs.Reasons.Reason.{Found, Exhausted, Budget}
 use Rattle.css_crew.specs.declared.reason.Reason.{Reason as Answer}
 use Rattle.css_crew.specs.declared.reason.Reason.TheVariants.{Found as IsFound, Budget as IsBudget, Exhausted as IsExhausted}
@@ -51,3 +52,8 @@ module _ {C R : Type 0} (D : Meaning C R) where
   abbrev pub Goes : Books C R → Books C R → Option Answer → Type 0
   Goes l new None = IsNext l new
   Goes l new (Some answer) = (new ≡ l) × FilesNone l answer
+
+  -- the specification that goes with a ledger: that of its picks, where its root stands
+  abbrev pub GoesWith : Books C R → Option (List (Entry C R)) → Type 0
+  GoesWith l None = RootStands D l → ⊥
+  GoesWith l (Some entries) = Picked D l 0 entries

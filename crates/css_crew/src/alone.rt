@@ -1,16 +1,17 @@
-ghost use Rattle.std.specs.Prelude.{◌≡◌, ◌≤◌, [], length, IfOk};
+ghost use Rattle.std.specs.Prelude.{◌≡◌, ◌≤◌, [], length, IfOk, IfSome};
 ghost use Rattle.std.specs.List.{range_with_len};
 ghost use Rattle.css_domain.specs.Ledgers.{classes, records, done};
 ghost use Rattle.css_domain.specs.LedgerFacts.{IsLedger};
 ghost use Rattle.css_domain.specs.Reasons.{Alone, EndsFor};
 ghost use Rattle.css_prune.specs.Pruning.{IsPruned};
-ghost use Rattle.css_crew.specs.Ways.{Goes, reason_as};
+ghost use Rattle.css_domain.specs.FiledSpecs.{IsFiledSpec};
+ghost use Rattle.css_crew.specs.Ways.{Goes, GoesWith, reason_as};
 
 use crate::expander::Expander;
 use crate::reason::Reason;
 use css_domain::Domain;
 use css_ledger::{Claimed, Ledger};
-use css_prune::{Pruned, prune};
+use css_prune::{Pruned, Spec, extract, prune};
 use std::alloc::{AllocError, Global};
 
 /// Which classes stand among the records of a ledger, with their ranks and picks.
@@ -94,4 +95,66 @@ fn search<D: Domain, E: Expander<D>>(
             });
         }
     }
+}
+
+/// A ledger, why it ends, and the specification of its picks where its root stands.
+#[derive(Drop)]
+pub struct Solved<D: Domain> {
+    pub ledger: Ledger<D>,
+    pub spec: Option<Spec<D>>,
+    pub reason: Reason,
+}
+
+/// The specification of a ledger's picks, where it ends since its root stands.
+fn spec_where_found<D: Domain>(
+    alloc: Global,
+    ledger: &Ledger<D>,
+    pruned: &Pruned,
+    reason: Reason,
+) -> Result<Option<Spec<D>>, AllocError>
+    requires pruned { IsPruned (records D.meaning ledger.now) (length (classes D.meaning ledger.now)) pruned.now }
+    requires reason { EndsFor D.meaning ledger.now (reason_as reason) }
+    ensures spec { IfOk result (λ spec. GoesWith D.meaning ledger.now spec) }
+    ensures filed { IfOk result (λ spec. IfSome spec (λ entries. IsFiledSpec D.meaning ledger.now entries)) }
+{
+    match reason {
+        Reason::Found => {
+            let _ = ledger.counts();
+            let spec = extract(alloc, ledger, pruned, 0)?;
+            Ok(Some(spec))
+        }
+        Reason::Budget => Ok(None),
+        Reason::Exhausted => Ok(None),
+    }
+}
+
+/// The ledger that one worker fills: class 0, 1, 2 and so on, each with its complete filing, pruned after every
+/// filing, up to the first one after which the root stands, all classes are done or the budget is spent. It
+/// tells why it ends, and where the root stands the specification of the picks, whose rules are the ledger's.
+/// The budget is 1 to 5,000. It waits for nobody. The refusal is want of memory.
+pub fn solve_alone<D: Domain, E: Expander<D>>(
+    alloc: Global,
+    root: D::Class,
+    budget: u32,
+    expander: &E,
+) -> Result<Solved<D>, AllocError>
+    requires some { 1 ≤ budget }
+    requires few { budget ≤ 5000 }
+    ensures alone { IfOk result (λ solved. Alone D.meaning root budget (E.rulebook_of expander.now) solved.ledger) }
+    ensures ledger { IfOk result (λ solved. IsLedger D.meaning solved.ledger) }
+    ensures reason { IfOk result (λ solved. EndsFor D.meaning solved.ledger (reason_as solved.reason)) }
+    ensures spec { IfOk result (λ solved. GoesWith D.meaning solved.ledger solved.spec) }
+    ensures filed { IfOk result (λ solved. IfSome solved.spec (λ spec. IsFiledSpec D.meaning solved.ledger spec)) }
+{
+    let Searched {
+        ledger,
+        pruned,
+        reason,
+    } = search(alloc, root, budget, expander)?;
+    let spec = spec_where_found(alloc, &ledger, &pruned, reason)?;
+    Ok(Solved {
+        ledger,
+        spec,
+        reason,
+    })
 }

@@ -5,5 +5,6 @@ mod alone;
 mod expander;
 mod reason;
 
+pub use alone::{Solved, solve_alone};
 pub use expander::Expander;
 pub use reason::Reason;

@@ -1,9 +1,8 @@
 -- The least fresh class is the next.
-use Rattle.std.proofs.Common.{◌≡◌, ◌<◌, ℕ, List, sym, ◌∙◌, ap, subst, arith, length, refl, Some}
+use Rattle.std.proofs.Common.{◌≡◌, ℕ, sym, ◌∙◌, ap, subst, arith, length, Some}
 use Rattle.std.specs.Prelude.{slice_get}
 use Rattle.patterns.specs.Parts.{IsIn}
-use Rattle.css_domain.specs.Ledgers.{Books, claimed, with_work, with_filing, classes}
-use Rattle.css_domain.specs.Ledgers.Claimed.{Work, Idle, Spent, Finished}
+use Rattle.css_domain.specs.Ledgers.{Books, with_work, with_filing, classes}
 use Rattle.css_domain.specs.LedgerFacts.{IsFilingOf}
 use Rattle.css_crew.specs.Ways.{IsExpansion}
 use Rattle.css_crew.proofs.Turns.{claimed_work, claimed_idle, claimed_spent, claimed_finished, claimed_filed, claimed_out}

@@ -1,4 +1,4 @@
-use Rattle.std.proofs.Common.{ℕ, ◌-◌, length}
+use Rattle.std.proofs.Common.{◌-◌, length}
 use Rattle.css_crew.specs.Ways.{IsOnTheWay}
 use Rattle.css_crew.proofs.alone.search.Given as goal
 

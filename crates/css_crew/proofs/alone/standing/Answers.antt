@@ -1,8 +1,8 @@
 -- The ledger's records are within its classes.
-use Rattle.std.proofs.Common.{◌≡◌, ℕ, List, length, ◌∙◌, sym, ap, subst}
+use Rattle.std.proofs.Common.{◌≡◌, ℕ, List, length, ◌∙◌, ap, subst}
 use Rattle.std.specs.Prelude.{Result, Ok, Err, IfOk, slice_index}
 use Rattle.css_domain.specs.declared.record.Record.{Record}
-use Rattle.css_domain.specs.Ledgers.{Counts, classes, records}
+use Rattle.css_domain.specs.Ledgers.{Counts, classes}
 use Rattle.css_domain.specs.Standing.{TellsStanding, rank_of, pick_of}
 use Rattle.css_prune.specs.declared.pruned.Pruned.{Pruned}
 use Rattle.css_prune.specs.Pruning.{IsPruned, HasLength, kept}
