@@ -8,3 +8,4 @@ pub mod Cuts
 mod TermRows
 pub mod SpecRows
 pub mod ExactTerms
+pub mod Zipped

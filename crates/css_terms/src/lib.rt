@@ -7,6 +7,7 @@ mod laws;
 mod order;
 mod rows;
 mod series;
+mod spec_terms;
 mod term;
 #[cfg(test)]
 mod tests;
@@ -15,4 +16,5 @@ mod value;
 pub use evaluate::terms_of_rows;
 pub use laws::{exact_terms_are_avoiders, specs_have_rows};
 pub use rows::Row;
+pub use spec_terms::terms;
 pub use term::Term;
