@@ -2,8 +2,8 @@ ghost use Rattle.std.specs.Prelude.{◌≡◌, ◌≤◌, IfOk};
 ghost use Rattle.gridded.specs.Grids.{points};
 
 use crate::{
-    GridMap, LineMap, add_preimages, collapse, preimage_count, preimages, preimages_are_listed_once, stretch,
-    stretch_keeps_members,
+    GridMap, LineMap, add_preimages, collapse, preimage_count, preimages,
+    preimages_are_listed_once, stretch, stretch_keeps_members,
 };
 use gridded::{Cell, Gridded, GriddedFault};
 use sequences::Sequence;

@@ -1,8 +1,6 @@
 ghost use Rattle.std.specs.Prelude.{◌≡◌, ◌<◌, ◌≤◌, IfOk, length};
 
-use crate::{
-    EmptyFault, InferFault, inferred, is_empty, is_inferable, members_within_weight,
-};
+use crate::{EmptyFault, InferFault, inferred, is_empty, is_inferable, members_within_weight};
 use gridded::{Cell, Gridded, GriddedFault};
 use sequences::Sequence;
 use std::alloc::{AllocError, Global};
