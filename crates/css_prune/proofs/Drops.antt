@@ -10,7 +10,7 @@ use Rattle.css_domain.proofs.StandingLaws.{stands_by}
 use Rattle.css_domain.specs.Records.{AreWithin}
 use Rattle.css_prune.specs.Pruning.{kept, IsPruned}
 use Rattle.css_prune.specs.Marks.{AreDropped, AreRanks, rank_after}
-use Rattle.css_prune.proofs.Tests.{there_or_past}
+use Rattle.css_prune.proofs.Passing.{there_or_past}
 use Rattle.css_prune.specs.declared.pruned.Pruned.{Pruned}
 use Rattle.css_prune.proofs.Marks.{rank_some, rank_none, pick_none}
 use Rattle.css_prune.proofs.Ends.{ends_rank, ends_pick}

@@ -17,7 +17,7 @@ use Rattle.css_domain.proofs.Determined.{IsIn-slice_get, at_place}
 use Rattle.css_domain.proofs.Finding.{place_of, same_number}
 use Rattle.css_domain.proofs.Ways.{less_or_whole}
 use Rattle.css_prune.specs.Faults.{EachBefore, IsMatched, IsRepeated, IsRuleRight, IsRankRight, AreRanksRight}
-use Rattle.css_prune.proofs.Tests.{passes, any_by}
+use Rattle.css_prune.proofs.Passing.{passes, any_by}
 
 pub never : {P : Type 0} → IsTrue false → P
 never t = absurd cc

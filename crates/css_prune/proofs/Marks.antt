@@ -6,7 +6,7 @@ use Rattle.std.proofs.lemmas.Bool.Decides.{nat_tests}
 use Rattle.css_domain.specs.declared.record.Record.{Record}
 use Rattle.css_domain.specs.Standing.{gives, is_ranked}
 use Rattle.css_prune.specs.Marks.{gives_next, giver, mark, rank_after, pick_after}
-use Rattle.css_prune.proofs.Tests.{first_within, first_passes, first_not_past}
+use Rattle.css_prune.proofs.Passing.{first_within, first_passes, first_not_past}
 use Rattle.css_prune.proofs.Rounds.{ranked_next}
 
 module _ (K : ℕ → Bool) (records : List Record) where

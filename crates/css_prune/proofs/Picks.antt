@@ -26,7 +26,7 @@ use Rattle.css_domain.proofs.Growing.{position_of}
 use Rattle.css_domain.proofs.Finding.{same_number}
 use Rattle.css_domain.proofs.Finding.{found_at}
 use Rattle.css_prune.specs.Marks.{gives_next, giver, rank_after}
-use Rattle.css_prune.proofs.Tests.{each_passes}
+use Rattle.css_prune.proofs.Passing.{each_passes}
 use Rattle.css_prune.proofs.Marks.{giver_within, giver_gives, rank_some}
 use Rattle.css_prune.proofs.Ends.{rank_stays, ranked_at_rank, ends_rank, picks_by_giver}
 use Rattle.css_prune.proofs.Supports.{ranked_if_stands, from_unless}

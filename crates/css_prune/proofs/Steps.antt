@@ -10,7 +10,7 @@ use Rattle.css_domain.specs.declared.record.Record.{Record}
 use Rattle.css_domain.specs.Records.{numbers}
 use Rattle.css_domain.specs.Standing.{gives, is_ranked, each_same_length}
 use Rattle.css_prune.specs.Marks.{gives_next, gives_mark, giver, mark, rank_after, pick_after, has_rank_below, AreMarks, AreAfter, AreRanks, IsGiven, IsSkipped}
-use Rattle.css_prune.proofs.Tests.{there_or_past}
+use Rattle.css_prune.proofs.Passing.{there_or_past}
 use Rattle.css_prune.proofs.Marks.{old_mark, new_mark, no_mark, same_mark, giver_gives, giver_not_past, lower_is_ranked, rank_start, pick_start, rank_some}
 use Rattle.css_prune.proofs.Supports.{same_number}
 use Rattle.css_prune.proofs.Ends.{stable_if_same, stays, ends_rank, ends_pick}

@@ -16,7 +16,7 @@ use Rattle.css_domain.specs.Records.{numbers, has_same_length}
 use Rattle.css_domain.specs.Standing.{Ranked, RestsOn, IsSupport, Stands, gives, is_ranked, each_same_length}
 use Rattle.css_domain.specs.Records.{AreWithin}
 use Rattle.css_prune.specs.Marks.{gives_next, rank_after}
-use Rattle.css_prune.proofs.Tests.{any_by, all_by, each_passes}
+use Rattle.css_prune.proofs.Passing.{any_by, all_by, each_passes}
 use Rattle.css_prune.proofs.Rounds.{ranked_by_end}
 use Rattle.css_prune.proofs.Marks.{rank_some}
 use Rattle.css_prune.proofs.Ends.{rank_stays, ranked_at_rank}

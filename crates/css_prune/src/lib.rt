@@ -10,6 +10,8 @@ mod picked;
 mod pruned;
 mod round;
 mod spec;
+#[cfg(test)]
+mod tests;
 
 pub use entry::Entry;
 pub use faults::SpecFault;
