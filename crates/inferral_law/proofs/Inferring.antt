@@ -12,8 +12,8 @@ use Rattle.tiling_core.proofs.Further.{holding_none, holding_one, from_further, 
 use Rattle.emptiness.specs.Emptiness.{MembersWithinWeight}
 use Rattle.rule_kinds.specs.Children as C
 use Rattle.rule_kinds.specs.Conditions as D
-use Rattle.rule_kinds.specs.Conditions.{has_no_member, is_inferable}
-use Rattle.rule_kinds.proofs.NoMembers.{none_of_any_length}
+use Rattle.emptiness.specs.Inferable.{has_no_member, is_inferable}
+use Rattle.emptiness.proofs.NoMembers.{none_of_any_length}
 use Rattle.inferral_law.specs.Inferring.{InferralsCarryMembers, VoidsCarryMembers}
 use Rattle.inferral_law.proofs.Unheld.{none_holds}
 

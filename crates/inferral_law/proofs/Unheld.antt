@@ -22,8 +22,8 @@ use Rattle.tiling_core.specs.Measures.{weight}
 use Rattle.tiling_core.specs.Patterns.{also}
 use Rattle.emptiness.specs.Emptiness.{IsEmpty, MembersWithinWeight}
 use Rattle.tiling_core.proofs.Further.{holds_one}
-use Rattle.rule_kinds.specs.Conditions.{has_no_member, is_inferable}
-use Rattle.rule_kinds.proofs.NoMembers.{none_of_any_length}
+use Rattle.emptiness.specs.Inferable.{has_no_member, is_inferable}
+use Rattle.emptiness.proofs.NoMembers.{none_of_any_length}
 use Rattle.tiling_core.proofs.Deciding.{each_passes, one_passes}
 
 lists_exact : (a b : List (List Point)) → slice_cmp gridded_cmp a b ≡ Equal → a ≡ b

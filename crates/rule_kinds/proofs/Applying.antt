@@ -9,7 +9,8 @@ use Rattle.tiling_core.specs.Measures.{weight}
 use Rattle.tiling_core.specs.Tiles.{Tiles, IsInGrid}
 use Rattle.gridded.specs.Places.{fits_grid}
 use Rattle.steps.specs.Steps.{is_nil}
-use Rattle.rule_kinds.specs.Conditions.{ascends, is_inferable}
+use Rattle.rule_kinds.specs.Conditions.{ascends}
+use Rattle.emptiness.specs.Inferable.{is_inferable}
 use Rattle.rule_kinds.specs.Lines.{in_grid}
 
 pub inserted_in_grid : (t : Tiles) (r : List Point) → (not (is_nil r) && in_grid t r) ≡ true → in_grid t r ≡ true

@@ -9,6 +9,3 @@ pub mod Joined
 pub mod ListTests
 pub mod Applied
 pub mod Applying
-pub mod NoMembers
-pub mod Inferred
-pub mod Inferring

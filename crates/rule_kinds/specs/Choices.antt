@@ -22,7 +22,8 @@ use Rattle.rule_kinds.specs.declared.kind.Direction.TheVariants.{North, South, E
 use Rattle.rule_kinds.specs.declared.kind.Kind.{Kind}
 use Rattle.rule_kinds.specs.declared.kind.Kind.TheVariants as kind
 use Rattle.rule_kinds.specs.Kinds.{cut_kind}
-use Rattle.rule_kinds.specs.Conditions.{before, bundles, is_inferable, applies}
+use Rattle.emptiness.specs.Inferable.{inferred}
+use Rattle.rule_kinds.specs.Conditions.{before, bundles, applies}
 
 -- the letters that are on
 pub record Packs : Type 0 where
@@ -74,9 +75,6 @@ cuts_along a t = filter (applies t) (flat_map (λ i. map (cut_kind a i) (least_c
 
 abbrev pub cuts : Tiles → List Kind
 cuts t = cuts_along axis.Row t ++ cuts_along axis.Column t
-
-abbrev pub inferred : Tiles → List (List Point)
-inferred t = in_order gridded_cmp (filter (is_inferable t) (gridded_of t.width t.height 1 ++ gridded_of t.width t.height 2))
 
 -- ---- Insertions and placements
 

@@ -19,6 +19,7 @@ use Rattle.tiling_core.specs.Same.{tiles_eq}
 use Rattle.coord_maps.specs.declared.grid_map.GridMap.{GridMap}
 use Rattle.coord_maps.specs.Preimages.{preimages}
 use Rattle.steps.specs.Steps.{is_nil}
+use Rattle.emptiness.specs.Inferable.{has_no_member, is_inferable}
 use Rattle.rule_kinds.specs.Lines.{lines, lies_in, in_grid, is_active, active_on, numbers_below}
 use Rattle.rule_kinds.specs.Pointeds.{PointedPattern}
 use Rattle.rule_kinds.specs.declared.kind.Direction.{Direction}
@@ -30,11 +31,6 @@ use Rattle.rule_kinds.specs.Children.{around, halved, patterns_pointed}
 -- the lists, one after another
 abbrev pub all_of : {X : Type 0} → List (List X) → List X
 all_of lists = flat_map (λ xs. xs) lists
-
--- ---- Void
--- no member of a length up to the weight, and so none at all
-abbrev pub has_no_member : Tiles → Bool
-has_no_member t = list_all (λ n. count t n == 0) (numbers_below (weight t + 1))
 
 -- ---- preimages
 abbrev pub preimages_in : GridMap → List (List Point) → ℕ
@@ -102,11 +98,6 @@ abbrev pub is_factoring : Tiles → List (List Cell) → Bool
 is_factoring t sets = shares_out sets (active_cells t) && keeps_together t sets
 
 -- ---- Infer
--- a pattern of one or two points in active cells that holds no obstruction and that no member holds
-abbrev pub is_inferable : Tiles → List Point → Bool
-is_inferable t g =
-    nat_le 1 (length g) && nat_le (length g) 2 && in_grid t g && lies_in (is_active t) g && not (list_any (holds g) t.obstructions) && has_no_member (also t [] ((g ∷ []) ∷ []))
-
 abbrev pub ascends : List (List Point) → Bool
 ascends patterns = pointwise gridded_eq (in_order gridded_cmp patterns) patterns
 

@@ -4,7 +4,7 @@ ghost use Rattle.tiling_core.specs.Roots.{unit_tiling, point_tiling};
 ghost use Rattle.tiling_core.specs.Same.{tiles_eq};
 ghost use Rattle.steps.specs.Steps.{is_nil};
 ghost use Rattle.rule_kinds.specs.Lines.{in_grid};
-ghost use Rattle.rule_kinds.specs.Conditions.{has_no_member};
+ghost use Rattle.emptiness.specs.Inferable.{has_no_member};
 ghost use Rattle.rule_kinds.specs.Built.{applies_now};
 
 use crate::inferral::can_be_inferred;
@@ -32,7 +32,7 @@ fn is_point(alloc: Global, tiling: &Tiling) -> Result<bool, AllocError>
 }
 
 /// Whether the weight is at most 6 and there is no member.
-pub(crate) fn is_void(alloc: Global, tiling: &Tiling) -> Result<bool, AllocError>
+fn is_void(alloc: Global, tiling: &Tiling) -> Result<bool, AllocError>
     ensures { IfOk result (λ void. void ≡ (nat_le (weight tiling.now) 6 && has_no_member tiling.now)) }
 {
     members_within_weight();
@@ -43,21 +43,11 @@ pub(crate) fn is_void(alloc: Global, tiling: &Tiling) -> Result<bool, AllocError
     }
 }
 
-/// Whether the cells of a pattern lie in the grid.
-pub(crate) fn is_in_grid(tiling: &Tiling, pattern: &Gridded) -> bool
-    ensures { result ≡ in_grid tiling.now pattern.now }
-{
-    let width = tiling.width();
-    let height = tiling.height();
-    let cells = pattern.cells();
-    cells.iter().all(|cell| cell.x < width && cell.y < height)
-}
-
 /// Whether the pattern has a point, and its cells lie in the grid.
 fn can_be_inserted(tiling: &Tiling, pattern: &Gridded) -> bool
     ensures { result ≡ (not (is_nil pattern.now) && in_grid tiling.now pattern.now) }
 {
-    pattern.len() != 0 && is_in_grid(tiling, pattern)
+    pattern.len() != 0 && pattern.fits_grid(tiling.width(), tiling.height())
 }
 
 /// Whether a kind applies to a tiling (docs/RULES.md, "Kinds of rules"). Placements, cuts and factors never do yet.

@@ -13,16 +13,14 @@ use Rattle.tiling_core.specs.Measures.{weight}
 use Rattle.gridded.specs.Small.{point_at}
 use Rattle.tiling_core.specs.Patterns.{active_cells, requires_list}
 use Rattle.steps.specs.Steps.{is_nil}
-use Rattle.emptiness.specs.Emptiness.{IsInferredOf}
-use Rattle.emptiness.proofs.Counted.{members_within_weight}
 use Rattle.emptiness.proofs.SmallPatterns.{active-in_grid}
 use Rattle.rule_kinds.specs.declared.kind.Kind.{Kind}
 use Rattle.rule_kinds.specs.declared.kind.Kind.TheVariants as kind
 use Rattle.rule_kinds.specs.Conditions as D
 use Rattle.rule_kinds.specs.Choices as H
 use Rattle.rule_kinds.specs.Conditions.{applies}
-use Rattle.rule_kinds.specs.Choices.{Packs, kinds_of, inferred, insertions, placements, when, first_that_is}
-use Rattle.rule_kinds.proofs.Inferred.{inferred_is}
+use Rattle.rule_kinds.specs.Choices.{Packs, kinds_of, insertions, placements, when, first_that_is}
+use Rattle.emptiness.specs.Inferable.{inferred}
 use Rattle.work_packs.specs.BuiltLetters.{HasOnlyIAndN}
 use Rattle.work_packs.specs.KindLines.{closing_kinds, inferrals}
 
@@ -99,10 +97,10 @@ no_inferral_heavy t h = let e : nat_le (weight t) 4 ≡ false = grind (arith, na
 pub no_inferral_wide : (t : Tiles) → 16 < length (active_cells t) → [] ≡ inferrals t
 no_inferral_wide t h = let e : nat_le (length (active_cells t)) 16 ≡ false = grind (arith, nat_tests) in rw (e, and_none (nat_le (weight t) 4)) refl
 
-pub inferral_listed : (t : Tiles) (patterns : List (List Point)) (kinds : List Kind) → IsInferredOf t patterns → weight t ≤ 4 → length (active_cells t) ≤ 16 → kinds ≡ when (not (is_nil patterns)) (kind.Infer patterns ∷ []) → kinds ≡ inferrals t
+pub inferral_listed : (t : Tiles) (patterns : List (List Point)) (kinds : List Kind) → patterns ≡ inferred t → weight t ≤ 4 → length (active_cells t) ≤ 16 → kinds ≡ when (not (is_nil patterns)) (kind.Infer patterns ∷ []) → kinds ≡ inferrals t
 inferral_listed t patterns kinds h light narrow e =
     let a : nat_le (weight t) 4 ≡ true = grind (arith, nat_tests) in
     let b : nat_le (length (active_cells t)) 16 ≡ true = grind (arith, nat_tests) in
-    rw (a, b) (e ∙ ap (λ (ps : List (List Point)). when (not (is_nil ps)) (kind.Infer ps ∷ [])) (inferred_is members_within_weight t patterns h))
+    rw (a, b) (e ∙ ap (λ (ps : List (List Point)). when (not (is_nil ps)) (kind.Infer ps ∷ [])) h)
 
 pub ruleset inferring = (no_inferral_heavy, no_inferral_wide, inferral_listed)

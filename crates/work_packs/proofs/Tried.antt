@@ -29,8 +29,9 @@ use Rattle.rule_kinds.specs.declared.kind.Kind.{Kind}
 use Rattle.rule_kinds.specs.declared.kind.Kind.TheVariants as kind
 use Rattle.rule_kinds.specs.Conditions as D
 use Rattle.rule_kinds.specs.Children as C
-use Rattle.rule_kinds.specs.Conditions.{applies, is_inferable, ascends}
-use Rattle.rule_kinds.specs.Choices.{Packs, kinds_of, inferred, insertions, when, first_that_is}
+use Rattle.rule_kinds.specs.Conditions.{applies, ascends}
+use Rattle.emptiness.specs.Inferable.{is_inferable, inferred}
+use Rattle.rule_kinds.specs.Choices.{Packs, kinds_of, insertions, when, first_that_is}
 use Rattle.work_packs.specs.BuiltLetters.{HasOnlyIAndN}
 use Rattle.work_packs.specs.KindLines.{closing_kinds, inferrals}
 use Rattle.work_packs.specs.RulesMade.{IsTried}

@@ -7,7 +7,8 @@ use Rattle.steps.specs.Steps.{is_nil}
 use Rattle.rule_kinds.specs.declared.kind.Kind.{Kind}
 use Rattle.rule_kinds.specs.declared.kind.Kind.TheVariants as kind
 use Rattle.rule_kinds.specs.Conditions.{applies}
-use Rattle.rule_kinds.specs.Choices.{inferred, when, first_that_is}
+use Rattle.emptiness.specs.Inferable.{inferred}
+use Rattle.rule_kinds.specs.Choices.{when, first_that_is}
 
 -- the kinds without children: that of the unit or the point tiling, and else that of a tiling without members
 abbrev pub closing_kinds : Tiles → List Kind

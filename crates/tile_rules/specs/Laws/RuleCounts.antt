@@ -19,7 +19,8 @@ use Rattle.rule_kinds.specs.declared.kind.Kind.{Kind}
 use Rattle.rule_kinds.specs.declared.kind.Kind.TheVariants as kind
 use Rattle.rule_kinds.specs.Children.{raw_children}
 use Rattle.rule_kinds.specs.Conditions as D
-use Rattle.rule_kinds.specs.Conditions.{applies, has_no_member, is_inferable}
+use Rattle.rule_kinds.specs.Conditions.{applies}
+use Rattle.emptiness.specs.Inferable.{has_no_member, is_inferable}
 use Rattle.rule_kinds.specs.Built.{is_built}
 use Rattle.css_domain.specs.declared.Shape.TheVariants.{Union}
 use Rattle.rule_kinds.specs.Kinds.{shape_of}
@@ -27,7 +28,7 @@ use Rattle.rule_kinds.specs.Carried.{MembersAreCarried, has_one_image, numbered_
 use Rattle.rule_kinds.proofs.Applied.{applying, never_applying}
 use Rattle.rule_kinds.specs.Counting.{CountsCombine, RulesCount}
 use Rattle.rule_kinds.specs.Follows.{Follows}
-use Rattle.rule_kinds.proofs.NoMembers.{none_of_any_length}
+use Rattle.emptiness.proofs.NoMembers.{none_of_any_length}
 
 abbrev replayed_from : List Tiles → List (List Step) → List (Option Tiles)
 replayed_from raws traces = map (λ (p : Tiles × List Step). replay p.0 p.1) (zip raws traces)

@@ -1,4 +1,4 @@
-use Rattle.rule_kinds.proofs.NoMembers.{void_tested}
+use Rattle.emptiness.proofs.NoMembers.{void_tested}
 use Rattle.rule_kinds.proofs.condition.is_void.Goals as goal
 
 pub returns-in-Ok : goal.returns-in-Ok
