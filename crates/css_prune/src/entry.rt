@@ -3,7 +3,7 @@ use sequences::Sequence;
 use std::marker::Model;
 
 /// A class with its rule, the places of the entries that are named for the rule's children, slot by slot,
-/// and a rank (docs/RULES.md, "Specifications").
+/// and a rank (docs/RULES.md, "Standing, ranks and picks").
 #[derive(Drop)]
 pub struct Entry<D: Domain> {
     pub class: D::Class,

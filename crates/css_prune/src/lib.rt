@@ -1,5 +1,5 @@
 //! Which classes stand among records, with their ranks and picks; specifications, and the one that a
-//! ledger's picks make (docs/RULES.md, "Standing").
+//! ledger's picks make (docs/RULES.md, "Standing, ranks and picks").
 #![tactic(auto)]
 
 mod entry;

@@ -81,7 +81,7 @@ fn entries_of<D: Domain>(
 }
 
 /// The specification of the picks from a kept class on, which is its root: each class has its pick as its
-/// rule, its rank, and the places of the pick's children (docs/RULES.md, "Standing"). `pruned` is the
+/// rule, its rank, and the places of the pick's children (docs/RULES.md, "Standing, ranks and picks"). `pruned` is the
 /// answer of `prune` for the ledger's records. The refusal is want of memory.
 pub fn extract<D: Domain>(
     alloc: Global,

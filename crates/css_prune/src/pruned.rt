@@ -11,7 +11,7 @@ use sequences::Sequence;
 use std::alloc::{AllocError, Global};
 
 /// Whether each class is kept, and its rank and pick, which are 0 where it isn't (docs/RULES.md,
-/// "Standing").
+/// "Standing, ranks and picks").
 #[derive(Debug, Drop)]
 pub struct Pruned {
     pub keep: Sequence<bool>,
@@ -53,7 +53,7 @@ fn are_short(records: &[Record]) -> bool
     true
 }
 
-/// Which classes stand among the records, with their ranks and picks (docs/RULES.md, "Standing"). All
+/// Which classes stand among the records, with their ranks and picks (docs/RULES.md, "Standing, ranks and picks"). All
 /// numbers are below `classes`. The refusal is want of memory.
 pub fn prune(alloc: Global, records: &[Record], classes: u32) -> Result<Pruned, AllocError>
     requires within { AreWithin classes records.now }

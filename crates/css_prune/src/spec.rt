@@ -8,7 +8,7 @@ use css_domain::Domain;
 use std::marker::Model;
 
 /// A specification: a class for each entry, the first of which is the root (docs/RULES.md,
-/// "Specifications"). Whether its rules hold it doesn't say.
+/// "Standing, ranks and picks"). Whether its rules hold it doesn't say.
 #[derive(Drop)]
 pub struct Spec<D: Domain> {
     entries: Vec<Entry<D>>,
