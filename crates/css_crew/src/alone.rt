@@ -80,7 +80,8 @@ fn search<D: Domain, E: Expander<D>>(
     let mut ledger = Ledger::new(alloc, root, budget, expander.rulebook())?;
     loop {
         let pruned = standing(alloc, &ledger)?;
-        if pruned.keep.as_slice()[0] {
+        let stands = pruned.keep.as_slice()[0];
+        if stands {
             return Ok(Searched {
                 ledger,
                 pruned,

@@ -19,12 +19,12 @@ bounds-as_slice-0 g c =
     let some = some_class g.D.Domain.meaning c.loop-ledger.ledger in
     omega (arith, some, p.as_many.keep, ap length c.as_slice.ensures)
 
-pub returns-then-as_slice-clause-reason : goal.returns-then-as_slice-clause-reason
-returns-then-as_slice-clause-reason g c = (c.in_ok-pruned.ensures.pruned.standing 0).0 (subst (λ (keep : List Bool). slice_index_or keep 0 false ≡ true) c.as_slice.ensures c.if-as_slice.true)
+pub returns-then-stands-clause-reason : goal.returns-then-stands-clause-reason
+returns-then-stands-clause-reason g c = (c.in_ok-pruned.ensures.pruned.standing 0).0 (subst (λ (keep : List Bool). slice_index_or keep 0 false ≡ true) c.as_slice.ensures c.if-stands.true)
 
-pub returns-then-as_slice-clause-alone : goal.returns-then-as_slice-clause-alone
-returns-then-as_slice-clause-alone g c =
-    alone g.D.Domain.meaning c.args.root c.args.budget (g.E.Expander.rulebook_of c.args.expander.now) c.loop-ledger.ledger c.in_ok-pruned.ensures.ledger c.loop-ledger.invariant (inl (returns-then-as_slice-clause-reason g c))
+pub returns-then-stands-clause-alone : goal.returns-then-stands-clause-alone
+returns-then-stands-clause-alone g c =
+    alone g.D.Domain.meaning c.args.root c.args.budget (g.E.Expander.rulebook_of c.args.expander.now) c.loop-ledger.ledger c.in_ok-pruned.ensures.ledger c.loop-ledger.invariant (inl (returns-then-stands-clause-reason g c))
 
 pub returns-in-Some-clause-alone : goal.returns-in-Some-clause-alone
 returns-in-Some-clause-alone g c =
@@ -36,7 +36,7 @@ returns-in-Some-clause-alone g c =
 pub returns-in-Some-clause-reason : goal.returns-in-Some-clause-reason
 returns-in-Some-clause-reason g c =
     let ends = subst (Goes g.D.Domain.meaning c.loop-ledger.ledger c.file_next.new.ledger) c.in-Some.is c.in_ok-reason.ensures in
-    let dropped : slice_index_or c.in_ok-pruned.pruned.keep 0 false ≡ false = subst (λ (keep : List Bool). slice_index_or keep 0 false ≡ false) c.as_slice.ensures c.if-as_slice.false in
+    let dropped : slice_index_or c.in_ok-pruned.pruned.keep 0 false ≡ false = subst (λ (keep : List Bool). slice_index_or keep 0 false ≡ false) c.as_slice.ensures c.if-stands.false in
     subst (λ (b : Books g.row.D-Class.Denot g.row.D-Rule.Denot). EndsFor g.D.Domain.meaning b (reason_as c.in-Some.reason)) (sym ends.0)
     (ends_not g.D.Domain.meaning c.loop-ledger.ledger c.in-Some.reason (λ s. both dropped ((c.in_ok-pruned.ensures.pruned.standing 0).1 s)) ends.1)
 
@@ -48,7 +48,7 @@ returns-in-Some-clause-pruned g c =
 pub loop-ledger-preserved : goal.loop-ledger-preserved
 loop-ledger-preserved g c =
     let book = g.E.Expander.rulebook_of c.args.expander.now in
-    let dropped : slice_index_or c.in_ok-pruned.pruned.keep 0 false ≡ false = subst (λ (keep : List Bool). slice_index_or keep 0 false ≡ false) c.as_slice.ensures c.if-as_slice.false in
+    let dropped : slice_index_or c.in_ok-pruned.pruned.keep 0 false ≡ false = subst (λ (keep : List Bool). slice_index_or keep 0 false ≡ false) c.as_slice.ensures c.if-stands.false in
     onward g.D.Domain.meaning c.args.root c.args.budget book c.loop-ledger.ledger c.in_ok-pruned.ensures.ledger c.loop-ledger.invariant
     (λ s. both dropped ((c.in_ok-pruned.ensures.pruned.standing 0).1 s))
     c.file_next.new.ledger (next_if_none g.D.Domain.meaning c.loop-ledger.ledger c.file_next.new.ledger c.in_ok-reason.field-0 c.in_default.not-Some c.in_ok-reason.ensures)
