@@ -1,8 +1,8 @@
 ghost use Rattle.std.specs.Prelude.{◌≡◌, ◌++◌, OnOk, OnErr, map};
 ghost use Rattle.spec_text.specs.Lines.{line, or_dash};
-ghost use Rattle.spec_text.specs.Classes.{grid_line, obstruction_line, requirement_line, class_text};
+ghost use Rattle.spec_text.specs.Classes.{grid_line, class_text};
 
-use crate::spell::{Spell, put_bytes, put_each_after, put_number};
+use crate::spell::{Spell, put_bytes, put_each_after, put_number, put_whole};
 use std::alloc::AllocError;
 use tiling_core::Tiling;
 
@@ -33,13 +33,14 @@ fn put_grid(out: &mut Vec<u8>, class: &Tiling) -> Result<(), AllocError>
     put_bytes(out, b"\n")
 }
 
-/// Appends the three lines of a class.
-pub(crate) fn put_class_lines(out: &mut Vec<u8>, class: &Tiling) -> Result<(), AllocError>
-    ensures { OnOk result (out.new.items ≡ out.old.items ++ class_text class.now) }
-{
-    put_grid(out, class)?;
-    put_line(out, b"obs", class.obstructions())?;
-    put_line(out, b"req", class.requirements())
+impl Spell for Tiling {
+    ghost text = { class_text };
+
+    fn put(&self, out: &mut Vec<u8>) -> Result<(), AllocError> {
+        put_grid(out, self)?;
+        put_line(out, b"obs", self.obstructions())?;
+        put_line(out, b"req", self.requirements())
+    }
 }
 
 /// Appends the lines `grid`, `obs` and `req` of a class (docs/FORMATS.md, "The text of a
@@ -48,7 +49,5 @@ pub fn put_class(out: &mut Vec<u8>, class: &Tiling) -> Result<(), AllocError>
     ensures ok { OnOk result (out.new.items ≡ out.old.items ++ class_text class.now) }
     ensures err { OnErr result (out.new.items ≡ out.old.items) }
 {
-    let mut lines = Vec::new(*out.allocator());
-    put_class_lines(&mut lines, class)?;
-    out.extend_from_slice(lines.as_slice())
+    put_whole(out, class)
 }

@@ -1,14 +1,14 @@
-ghost use Rattle.std.specs.Prelude.{◌≡◌, ◌++◌, [], length, slice_index_or, OnOk, OnErr};
-ghost use Rattle.spec_text.specs.Entries.{child_lines, rule_text, entry_line, entry_text};
+ghost use Rattle.std.specs.Prelude.{◌≡◌, ◌<◌, ◌++◌, [], length, slice_index_or, OnOk, OnErr};
+ghost use Rattle.spec_text.specs.Entries.{child_lines, rule_text, entry_line, entries_text};
 
-use crate::class::put_class_lines;
 use crate::kinds::put_rule_line;
-use crate::spell::{put_bytes, put_number};
-use crate::traces::put_child_line;
+use crate::spell::{Spell, put_bytes, put_number, put_whole};
+use crate::traces::ChildLine;
+use css_prune::Entry;
 use sequences::Sequence;
 use std::alloc::AllocError;
 use steps::Step;
-use tile_rules::TileRule;
+use tile_rules::{TileRule, Tiles};
 
 /// The trace at a place, or that of no step where there is none.
 fn trace_at(traces: &[Sequence<Step>], index: usize) -> &[Step]
@@ -29,17 +29,31 @@ fn put_child_lines(
     ensures { OnOk result (out.new.items ≡ out.old.items ++ child_lines children.now traces.now) }
 {
     for index in 0..children.len() {
-        put_child_line(out, children[index], trace_at(traces, index))?;
+        let line = ChildLine {
+            child: children[index],
+            trace: trace_at(traces, index),
+        };
+        line.put(out)?;
     }
     Ok(())
 }
 
-/// Appends the lines of a rule.
-fn put_rule_lines(out: &mut Vec<u8>, rule: &TileRule, children: &[u32]) -> Result<(), AllocError>
-    ensures { OnOk result (out.new.items ≡ out.old.items ++ rule_text rule.now children.now) }
-{
-    put_rule_line(out, rule.kind())?;
-    put_child_lines(out, children, rule.traces())
+/// The lines of a rule, whose children are the entries of these numbers.
+#[derive(Clone, Copy)]
+struct RuleLines<'a> {
+    rule: &'a TileRule,
+    children: &'a [u32],
+}
+
+impl<'a> Spell for RuleLines<'a> {
+    ghost use Rattle.spec_text.specs.Entries.{rule_text};
+
+    ghost text = { λ lines. rule_text lines.rule.now lines.children.now };
+
+    fn put(&self, out: &mut Vec<u8>) -> Result<(), AllocError> {
+        put_rule_line(out, self.rule.kind())?;
+        put_child_lines(out, self.children, self.rule.traces())
+    }
 }
 
 /// Appends the line `rule` of a rule and a line `to` for each child, whose entries' numbers are given, one for
@@ -50,9 +64,7 @@ pub fn put_rule(out: &mut Vec<u8>, rule: &TileRule, children: &[u32]) -> Result<
     ensures ok { OnOk result (out.new.items ≡ out.old.items ++ rule_text rule.now children.now) }
     ensures err { OnErr result (out.new.items ≡ out.old.items) }
 {
-    let mut lines = Vec::new(*out.allocator());
-    put_rule_lines(&mut lines, rule, children)?;
-    out.extend_from_slice(lines.as_slice())
+    put_whole(out, &RuleLines { rule, children })
 }
 
 /// Appends the first line of an entry.
@@ -66,36 +78,39 @@ fn put_entry_line(out: &mut Vec<u8>, number: u32, rank: u32) -> Result<(), Alloc
     put_bytes(out, b"\n")
 }
 
-/// Appends the lines of an entry.
-fn put_entry_lines(
-    out: &mut Vec<u8>,
+/// The lines of the entry of a number.
+#[derive(Clone, Copy)]
+struct EntryLines<'a> {
     number: u32,
-    rank: u32,
-    rule: &TileRule,
-    children: &[u32],
-) -> Result<(), AllocError>
-    ensures { OnOk result (out.new.items ≡ out.old.items ++ entry_text number (record { class = rule.now.parent; rule = rule.now; children = children.now; rank = rank })) }
-{
-    put_entry_line(out, number, rank)?;
-    put_class_lines(out, rule.parent())?;
-    put_rule_lines(out, rule, children)
+    entry: &'a Entry<Tiles>,
 }
 
-/// Appends the lines of the entry of a number, whose class is the rule's parent; the numbers of the children's
-/// entries are given, one for each child (docs/FORMATS.md, "The text of a specification"). The refusal is want
-/// of memory, and then `out` is as before.
-pub fn put_entry(
-    out: &mut Vec<u8>,
-    number: u32,
-    rank: u32,
-    rule: &TileRule,
-    children: &[u32],
-) -> Result<(), AllocError>
-    requires { length children.now ≡ length rule.now.children }
-    ensures ok { OnOk result (out.new.items ≡ out.old.items ++ entry_text number (record { class = rule.now.parent; rule = rule.now; children = children.now; rank = rank })) }
-    ensures err { OnErr result (out.new.items ≡ out.old.items) }
+impl<'a> Spell for EntryLines<'a> {
+    ghost use Rattle.spec_text.specs.Entries.{entry_text};
+
+    ghost text = { λ lines. entry_text lines.number lines.entry.now };
+
+    fn put(&self, out: &mut Vec<u8>) -> Result<(), AllocError> {
+        let entry = self.entry;
+        put_entry_line(out, self.number, entry.rank)?;
+        entry.class.put(out)?;
+        let rule = &entry.rule;
+        let children = entry.children.as_slice();
+        RuleLines { rule, children }.put(out)
+    }
+}
+
+/// Appends the lines of the entries, in order.
+pub(crate) fn put_entries(out: &mut Vec<u8>, entries: &[Entry<Tiles>]) -> Result<(), AllocError>
+    requires { length entries.now < 268435456 }
+    ensures { OnOk result (out.new.items ≡ out.old.items ++ entries_text entries.now) }
 {
-    let mut lines = Vec::new(*out.allocator());
-    put_entry_lines(&mut lines, number, rank, rule, children)?;
-    out.extend_from_slice(lines.as_slice())
+    for (number, entry) in entries.iter().enumerate() {
+        let lines = EntryLines {
+            number: number as u32,
+            entry,
+        };
+        lines.put(out)?;
+    }
+    Ok(())
 }

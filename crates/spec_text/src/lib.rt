@@ -13,7 +13,7 @@ mod traces;
 mod whole;
 
 pub use class::put_class;
-pub use entry::{put_entry, put_rule};
+pub use entry::put_rule;
 pub use spell::put_number;
-pub use traces::{put_child, put_head};
-pub use whole::{put_end, put_start, put_terms};
+pub use traces::put_head;
+pub use whole::{put_terms, write_spec};

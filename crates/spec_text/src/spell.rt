@@ -20,6 +20,16 @@ pub(crate) fn put_bytes(out: &mut Vec<u8>, bytes: &[u8]) -> Result<(), AllocErro
     out.extend_from_slice(bytes)
 }
 
+/// Appends the whole text of an item. The refusal is want of memory, and then `out` is as before.
+pub(crate) fn put_whole<T: Spell>(out: &mut Vec<u8>, item: &T) -> Result<(), AllocError>
+    ensures ok { OnOk result (out.new.items ≡ out.old.items ++ T.text item.now) }
+    ensures err { OnErr result (out.new.items ≡ out.old.items) }
+{
+    let mut text = Vec::new(*out.allocator());
+    item.put(&mut text)?;
+    out.extend_from_slice(text.as_slice())
+}
+
 /// Appends a decimal number. The refusal is want of memory, and then `out` is as before.
 pub fn put_number(out: &mut Vec<u8>, number: u32) -> Result<(), AllocError>
     ensures ok { OnOk result (out.new.items ≡ out.old.items ++ decimal number) }

@@ -1,9 +1,8 @@
 ghost use Rattle.std.specs.Prelude.{◌≡◌, length, All, IfOk};
 ghost use Rattle.tiling_core.specs.Tiles.{IsKept};
 
-use crate::{
-    put_child, put_class, put_end, put_entry, put_head, put_number, put_rule, put_start, put_terms,
-};
+use crate::{put_class, put_head, put_number, put_rule, put_terms, write_spec};
+use css_prune::{Entry, Spec};
 use css_terms::Term;
 use gridded::{Cell, Gridded, GriddedFault};
 use perm_core::Perm;
@@ -11,7 +10,7 @@ use sequences::Sequence;
 use std::alloc::{AllocError, Global};
 use std::test::Fail;
 use steps::Step;
-use tile_rules::{Kind, TileRule};
+use tile_rules::{Kind, TileRule, Tiles};
 use tiling_core::{Tiling, TilingFault};
 
 const ORIGIN: Cell = Cell { x: 0, y: 0 };
@@ -120,17 +119,6 @@ fn lines_of_a_head(rt: HostRuntime) -> Result<(), Fail> {
 }
 
 #[test]
-fn lines_of_a_start(rt: HostRuntime) -> Result<(), Fail> {
-    let alloc = rt.alloc();
-    let basis = basis(alloc)?;
-    let mut out = Vec::new(alloc);
-    put_start(&mut out, basis.as_slice(), &[], 3)?;
-    let lines = b"tilescope 1\nbasis 01,10\nroot -\nentries 3\n";
-    assert_eq!(rt; out.as_slice(), lines.as_slice());
-    Ok(())
-}
-
-#[test]
 fn lines_of_a_rule(rt: HostRuntime) -> Result<(), Fail> {
     let alloc = rt.alloc();
     let rule = insertion(alloc)?;
@@ -143,35 +131,50 @@ fn lines_of_a_rule(rt: HostRuntime) -> Result<(), Fail> {
     Ok(())
 }
 
+/// The specification of the 0x0 tiling.
+fn unit_spec(alloc: Global) -> Result<Spec<Tiles>, Fail> {
+    let mut entries = Vec::new(alloc);
+    entries.push(Entry {
+        class: unit(alloc)?,
+        rule: unit_rule(alloc)?,
+        children: Sequence::of(Vec::new(alloc)),
+        rank: 1,
+    })?;
+    let Ok(spec) = Spec::of(entries) else {
+        return Err(Fail::from("the entries are a specification"));
+    };
+    Ok(spec)
+}
+
 #[test]
-fn lines_of_an_entry(rt: HostRuntime) -> Result<(), Fail> {
+fn a_whole_text(rt: HostRuntime) -> Result<(), Fail> {
     let alloc = rt.alloc();
-    let rule = unit_rule(alloc)?;
-    let mut out = Vec::new(alloc);
-    put_entry(&mut out, 1, 1, &rule, &[])?;
-    let lines = b"entry 1 rank 1\ngrid 0 0\nobs -\nreq -\nrule unit\n";
-    assert_eq!(rt; out.as_slice(), lines.as_slice());
+    let mut basis = Vec::new(alloc);
+    basis.push(Perm::of(alloc, &[0])?)?;
+    let steps = [Step::Column(0), Step::Row(0)];
+    let terms = [
+        Term::Exact(1),
+        Term::Exact(0),
+        Term::Exact(0),
+        Term::Exact(0),
+    ];
+    let spec = unit_spec(alloc)?;
+    let text = write_spec(alloc, basis.as_slice(), &steps, &spec, &terms)?;
+    let lines =
+        b"tilescope 1\nbasis 0\nroot C0 R0\nentries 1\nentry 0 rank 1\ngrid 0 0\nobs -\nreq -\nrule unit\nterms 1 0 0 0\nend\n";
+    assert_eq!(rt; text.as_slice(), lines.as_slice());
     Ok(())
 }
 
 #[test]
-fn lines_of_an_end(rt: HostRuntime) -> Result<(), Fail> {
-    let alloc = rt.alloc();
-    let mut out = Vec::new(alloc);
-    put_terms(&mut out, &[Term::Exact(1), Term::Exact(1), Term::Exact(0)])?;
-    assert_eq!(rt; out.as_slice(), b"terms 1 1 0\n".as_slice());
-    put_end(&mut out, &[Term::Exact(u128::MAX), Term::Big])?;
-    let lines = b"terms 1 1 0\nterms 340282366920938463463374607431768211455 big\nend\n";
-    assert_eq!(rt; out.as_slice(), lines.as_slice());
-    Ok(())
-}
-
-#[test]
-fn a_child_and_a_number(rt: HostRuntime) -> Result<(), Fail> {
-    let alloc = rt.alloc();
-    let mut out = Vec::new(alloc);
-    put_child(&mut out, 2, &[])?;
+fn lines_of_terms(rt: HostRuntime) -> Result<(), Fail> {
+    let mut out = Vec::new(rt.alloc());
+    put_terms(
+        &mut out,
+        &[Term::Exact(1), Term::Exact(u128::MAX), Term::Big],
+    )?;
     put_number(&mut out, 4294967295)?;
-    assert_eq!(rt; out.as_slice(), b"to 2 -\n4294967295".as_slice());
+    let lines = b"terms 1 340282366920938463463374607431768211455 big\n4294967295";
+    assert_eq!(rt; out.as_slice(), lines.as_slice());
     Ok(())
 }

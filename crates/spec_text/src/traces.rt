@@ -3,7 +3,7 @@ ghost use Rattle.spec_text.specs.Lines.{each_after};
 ghost use Rattle.spec_text.specs.Traces.{step_text, trace_items, basis_line, root_line, head_text, child_line};
 
 use crate::class::put_line;
-use crate::spell::{Spell, put_bytes, put_each_after, put_number, put_separated};
+use crate::spell::{Spell, put_bytes, put_each_after, put_number, put_separated, put_whole};
 use perm_core::Perm;
 use std::alloc::AllocError;
 use steps::Step;
@@ -41,16 +41,20 @@ fn put_basis(out: &mut Vec<u8>, basis: &[Perm]) -> Result<(), AllocError>
     put_bytes(out, b"\n")
 }
 
-/// Appends both lines of the head.
-pub(crate) fn put_head_lines(
-    out: &mut Vec<u8>,
-    basis: &[Perm],
-    root_trace: &[Step],
-) -> Result<(), AllocError>
-    ensures { OnOk result (out.new.items ≡ out.old.items ++ head_text basis.now root_trace.now) }
-{
-    put_basis(out, basis)?;
-    put_line(out, b"root", root_trace)
+/// The lines of the basis and of the trace that leads to the root.
+#[derive(Clone, Copy)]
+pub(crate) struct HeadLines<'a> {
+    pub(crate) basis: &'a [Perm],
+    pub(crate) root_trace: &'a [Step],
+}
+
+impl<'a> Spell for HeadLines<'a> {
+    ghost text = { λ head. head_text head.basis.now head.root_trace.now };
+
+    fn put(&self, out: &mut Vec<u8>) -> Result<(), AllocError> {
+        put_basis(out, self.basis)?;
+        put_line(out, b"root", self.root_trace)
+    }
 }
 
 /// Appends the lines `basis` and `root` of a specification (docs/FORMATS.md, "The text of a
@@ -59,9 +63,7 @@ pub fn put_head(out: &mut Vec<u8>, basis: &[Perm], root_trace: &[Step]) -> Resul
     ensures ok { OnOk result (out.new.items ≡ out.old.items ++ head_text basis.now root_trace.now) }
     ensures err { OnErr result (out.new.items ≡ out.old.items) }
 {
-    let mut lines = Vec::new(*out.allocator());
-    put_head_lines(&mut lines, basis, root_trace)?;
-    out.extend_from_slice(lines.as_slice())
+    put_whole(out, &HeadLines { basis, root_trace })
 }
 
 /// Appends the items of a trace, or a dash where it has no step, each after a blank.
@@ -74,27 +76,20 @@ fn put_trace(out: &mut Vec<u8>, trace: &[Step]) -> Result<(), AllocError>
     put_each_after(out, b' ', trace)
 }
 
-/// Appends the line of a child.
-pub(crate) fn put_child_line(
-    out: &mut Vec<u8>,
-    child: u32,
-    trace: &[Step],
-) -> Result<(), AllocError>
-    ensures { OnOk result (out.new.items ≡ out.old.items ++ child_line child trace.now) }
-{
-    put_bytes(out, b"to ")?;
-    put_number(out, child)?;
-    put_trace(out, trace)?;
-    put_bytes(out, b"\n")
+/// The line of a child: the number of the entry that it is, and the trace that leads to it.
+#[derive(Clone, Copy)]
+pub(crate) struct ChildLine<'a> {
+    pub(crate) child: u32,
+    pub(crate) trace: &'a [Step],
 }
 
-/// Appends the line `to` of a child: the number of the entry that it is, and the trace that leads to it.
-/// The refusal is want of memory, and then `out` is as before.
-pub fn put_child(out: &mut Vec<u8>, child: u32, trace: &[Step]) -> Result<(), AllocError>
-    ensures ok { OnOk result (out.new.items ≡ out.old.items ++ child_line child trace.now) }
-    ensures err { OnErr result (out.new.items ≡ out.old.items) }
-{
-    let mut line = Vec::new(*out.allocator());
-    put_child_line(&mut line, child, trace)?;
-    out.extend_from_slice(line.as_slice())
+impl<'a> Spell for ChildLine<'a> {
+    ghost text = { λ line. child_line line.child line.trace.now };
+
+    fn put(&self, out: &mut Vec<u8>) -> Result<(), AllocError> {
+        put_bytes(out, b"to ")?;
+        put_number(out, self.child)?;
+        put_trace(out, self.trace)?;
+        put_bytes(out, b"\n")
+    }
 }

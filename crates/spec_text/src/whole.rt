@@ -1,14 +1,17 @@
-ghost use Rattle.std.specs.Prelude.{◌≡◌, ◌++◌, OnOk, OnErr};
+ghost use Rattle.std.specs.Prelude.{◌≡◌, ◌++◌, OnOk, OnErr, IfOk};
 ghost use Rattle.spec_text.specs.Terms.{term_text, terms_line};
-ghost use Rattle.spec_text.specs.Texts.{number_line, start_text, end_text};
+ghost use Rattle.spec_text.specs.Texts.{number_line, start_text, end_text, spec_text};
 
-use crate::spell::{Spell, put_bytes, put_each_after, put_number};
-use crate::traces::put_head_lines;
+use crate::entry::put_entries;
+use crate::spell::{Spell, put_bytes, put_each_after, put_number, put_whole};
+use crate::traces::HeadLines;
+use css_prune::Spec;
 use css_terms::Term;
 use itoa::Buffer;
 use perm_core::Perm;
-use std::alloc::AllocError;
+use std::alloc::{AllocError, Global};
 use steps::Step;
+use tile_rules::Tiles;
 
 impl Spell for Term {
     ghost text = { term_text };
@@ -33,43 +36,37 @@ fn put_number_line(out: &mut Vec<u8>, entries: u32) -> Result<(), AllocError>
     put_bytes(out, b"\n")
 }
 
-/// Appends the lines before the entries.
-fn put_start_lines(
-    out: &mut Vec<u8>,
-    basis: &[Perm],
-    root_trace: &[Step],
+/// The lines before the entries.
+#[derive(Clone, Copy)]
+struct StartLines<'a> {
+    head: HeadLines<'a>,
     entries: u32,
-) -> Result<(), AllocError>
-    ensures { OnOk result (out.new.items ≡ out.old.items ++ start_text basis.now root_trace.now entries) }
-{
-    put_bytes(out, b"tilescope 1\n")?;
-    put_head_lines(out, basis, root_trace)?;
-    put_number_line(out, entries)
 }
 
-/// Appends the four lines before the entries, whose number is given (docs/FORMATS.md, "The text of a
-/// specification"). The refusal is want of memory, and then `out` is as before.
-pub fn put_start(
-    out: &mut Vec<u8>,
-    basis: &[Perm],
-    root_trace: &[Step],
-    entries: u32,
-) -> Result<(), AllocError>
-    ensures ok { OnOk result (out.new.items ≡ out.old.items ++ start_text basis.now root_trace.now entries) }
-    ensures err { OnErr result (out.new.items ≡ out.old.items) }
-{
-    let mut lines = Vec::new(*out.allocator());
-    put_start_lines(&mut lines, basis, root_trace, entries)?;
-    out.extend_from_slice(lines.as_slice())
+impl<'a> Spell for StartLines<'a> {
+    ghost text = { λ start. start_text start.head.basis.now start.head.root_trace.now start.entries };
+
+    fn put(&self, out: &mut Vec<u8>) -> Result<(), AllocError> {
+        put_bytes(out, b"tilescope 1\n")?;
+        self.head.put(out)?;
+        put_number_line(out, self.entries)
+    }
 }
 
-/// Appends the line of terms.
-fn put_terms_line(out: &mut Vec<u8>, terms: &[Term]) -> Result<(), AllocError>
-    ensures { OnOk result (out.new.items ≡ out.old.items ++ terms_line terms.now) }
-{
-    put_bytes(out, b"terms")?;
-    put_each_after(out, b' ', terms)?;
-    put_bytes(out, b"\n")
+/// The line of terms.
+#[derive(Clone, Copy)]
+struct TermsLine<'a> {
+    terms: &'a [Term],
+}
+
+impl<'a> Spell for TermsLine<'a> {
+    ghost text = { λ line. terms_line line.terms.now };
+
+    fn put(&self, out: &mut Vec<u8>) -> Result<(), AllocError> {
+        put_bytes(out, b"terms")?;
+        put_each_after(out, b' ', self.terms)?;
+        put_bytes(out, b"\n")
+    }
 }
 
 /// Appends the line `terms` (docs/FORMATS.md, "The text of a specification"). The refusal is want of memory,
@@ -78,26 +75,45 @@ pub fn put_terms(out: &mut Vec<u8>, terms: &[Term]) -> Result<(), AllocError>
     ensures ok { OnOk result (out.new.items ≡ out.old.items ++ terms_line terms.now) }
     ensures err { OnErr result (out.new.items ≡ out.old.items) }
 {
-    let mut line = Vec::new(*out.allocator());
-    put_terms_line(&mut line, terms)?;
-    out.extend_from_slice(line.as_slice())
+    put_whole(out, &TermsLine { terms })
 }
 
-/// Appends the lines after the entries.
-fn put_end_lines(out: &mut Vec<u8>, terms: &[Term]) -> Result<(), AllocError>
-    ensures { OnOk result (out.new.items ≡ out.old.items ++ end_text terms.now) }
-{
-    put_terms_line(out, terms)?;
-    put_bytes(out, b"end\n")
+/// The lines after the entries.
+#[derive(Clone, Copy)]
+struct EndLines<'a> {
+    terms: TermsLine<'a>,
 }
 
-/// Appends the two lines after the entries, the terms and the end (docs/FORMATS.md, "The text of a
-/// specification"). The refusal is want of memory, and then `out` is as before.
-pub fn put_end(out: &mut Vec<u8>, terms: &[Term]) -> Result<(), AllocError>
-    ensures ok { OnOk result (out.new.items ≡ out.old.items ++ end_text terms.now) }
-    ensures err { OnErr result (out.new.items ≡ out.old.items) }
+impl<'a> Spell for EndLines<'a> {
+    ghost text = { λ end. end_text end.terms.terms.now };
+
+    fn put(&self, out: &mut Vec<u8>) -> Result<(), AllocError> {
+        self.terms.put(out)?;
+        put_bytes(out, b"end\n")
+    }
+}
+
+/// The text of a specification, with the basis, the trace that leads from its 1x1 tiling to the root, and the
+/// terms (docs/FORMATS.md, "The text of a specification"). The refusal is want of memory.
+pub fn write_spec(
+    alloc: Global,
+    basis: &[Perm],
+    root_trace: &[Step],
+    spec: &Spec<Tiles>,
+    terms: &[Term],
+) -> Result<Vec<u8>, AllocError>
+    ensures { IfOk result (λ text. text.items ≡ spec_text basis.now root_trace.now spec.now terms.now) }
 {
-    let mut lines = Vec::new(*out.allocator());
-    put_end_lines(&mut lines, terms)?;
-    out.extend_from_slice(lines.as_slice())
+    let entries = spec.entries();
+    let head = HeadLines { basis, root_trace };
+    let start = StartLines {
+        head,
+        entries: entries.len() as u32,
+    };
+    let terms = TermsLine { terms };
+    let mut out = Vec::new(alloc);
+    start.put(&mut out)?;
+    put_entries(&mut out, entries)?;
+    EndLines { terms }.put(&mut out)?;
+    Ok(out)
 }

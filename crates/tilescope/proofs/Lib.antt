@@ -1,0 +1,7 @@
+mod Forms
+mod Answering
+mod Bases
+mod Roots
+mod Expansions
+mod Letters
+mod Solving

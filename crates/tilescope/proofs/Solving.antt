@@ -1,0 +1,90 @@
+-- What a search answers, from what the calls say that solve it.
+use Rattle.std.proofs.Common.{◌≡◌, ◌<◌, ℕ, true, List, refl, sym, ap, ◌∙◌, subst}
+use Rattle.std.specs.Prelude.{◌≢◌, Some}
+use Rattle.lists.specs.Members.{IsIn}
+use Rattle.patterns.specs.Occurs.{avoiders}
+use Rattle.steps.specs.declared.step.Step.{Step}
+use Rattle.normal_form.specs.TraceLaws.{trace}
+use Rattle.tiling_core.specs.Tiles.{Tiles, count}
+use Rattle.tiling_core.specs.Roots.{root_of}
+use Rattle.css_domain.specs.Entries.{Entry, ValidSpec, Picked, class_counts}
+use Rattle.css_domain.specs.FiledSpecs.{IsFiledSpec, FiledSpecsStand}
+use Rattle.css_domain.specs.LedgerFacts.{IsLedger}
+use Rattle.css_domain.specs.Ledgers.{Counts, counts, is_all_done}
+use Rattle.css_domain.specs.Reasons.{Reason, RootStands, EndsFor, Alone}
+use Rattle.css_domain.specs.Reasons.Reason.{Found, Exhausted, Budget}
+use Rattle.css_terms.specs.Terms.{terms_to, terms_of}
+use Rattle.rule_kinds.specs.Choices.{Packs}
+use Rattle.rule_kinds.specs.Rules.{TilingRule}
+use Rattle.tile_rules.specs.Complete.{rulebook_of}
+use Rattle.tile_rules.specs.Meaning.{tile_meaning}
+use Rattle.pack_law.specs.Tried.{AreTried, IsFiledFor, AloneIsFiled, ClassesAreNormal, NoSpec}
+use Rattle.spec_text.specs.Lines.{Text}
+use Rattle.spec_text.specs.Texts.{spec_text}
+use Rattle.tilescope.specs.declared.words.Request.{Request}
+use Rattle.tilescope.specs.Searches.{TileBooks, TileEntries, IsReducedRoot, IsExplored, IsSpecOf, IsWithout, IsAnswerText, none_line}
+use Rattle.tilescope.specs.Answers.{IsSearchAnswer, IsSearched}
+use Rattle.tilescope.specs.Answers.IsSearchAnswer.{found, none}
+
+same_terms : (last : ℕ) (f g : ℕ → ℕ) → ((n : ℕ) → f n ≡ g n) → terms_to last f ≡ terms_to last g
+same_terms last f g h i = terms_to last (λ n. h n i)
+
+-- the root's counts are those of the first entry
+root_counts : (basis : List (List ℕ)) (l : TileBooks) (entries : TileEntries) → IsReducedRoot basis l.root → ValidSpec tile_meaning entries l.root → (n : ℕ) → class_counts tile_meaning entries 0 n ≡ avoiders basis n
+root_counts basis l entries root v n =
+    let first : class_counts tile_meaning entries 0 n ≡ count v.first.class n = rw v.starts refl in
+    first ∙ ap (λ (t : Tiles). count t n) v.root ∙ root.counts n
+
+-- where the root doesn't stand, that is no reason
+not_found : (l : TileBooks) (why : Reason) → EndsFor tile_meaning l why → (RootStands tile_meaning l → ⊥) → why ≢ Found
+not_found l why ends unsettled e = unsettled (subst (λ w. EndsFor tile_meaning l w) e ends)
+
+-- the root of a ledger with picks stands
+stands : (l : TileBooks) (entries : TileEntries) → Picked tile_meaning l 0 entries → RootStands tile_meaning l
+stands l entries picked = (picked.standing 0).0 picked.stands
+
+-- the answer's text where there is no specification
+none_text : (basis : List (List ℕ)) (last : ℕ) (l : TileBooks) (why : Reason) (text : Text) → why ≢ Found → text ≡ none_line why (counts tile_meaning l) → IsAnswerText basis last l why text
+none_text basis last l Found text ne e = absurd (ne refl)
+none_text basis last l Exhausted text ne e = e
+none_text basis last l Budget text ne e = e
+
+module _ (stand : FiledSpecsStand tile_meaning) (alone_is_filed : AloneIsFiled) (classes_normal : ClassesAreNormal) (no_spec : NoSpec) (request : Request) (letter : 0 < rulebook_of request.packs) (root : Tiles) (reduced : IsReducedRoot request.basis root) (l : TileBooks) (ledger : IsLedger tile_meaning l) (alone : Alone tile_meaning root request.budget (rulebook_of request.packs) l) where
+  filed_for : IsFiledFor request.packs l
+  filed_for = alone_is_filed request.packs root request.budget l ledger alone reduced.normal letter
+
+  own_root : IsReducedRoot request.basis l.root
+  own_root = subst (λ t. IsReducedRoot request.basis t) (sym alone.of_root) reduced
+
+  explored : (why : Reason) → EndsFor tile_meaning l why → IsExplored request.basis request.budget request.packs l why
+  explored why ends =
+      record {
+        root = own_root;
+        ledger = ledger;
+        alone = subst (λ t. Alone tile_meaning t request.budget (rulebook_of request.packs) l) (sym alone.of_root) alone;
+        normal = classes_normal request.packs l filed_for;
+        ends = ends;
+      }
+
+  without : (RootStands tile_meaning l → ⊥) → IsWithout request.packs l
+  without unsettled =
+      record {
+        none = unsettled;
+        none_filed = λ entries valid filed. unsettled (stand l entries ledger (record { valid = valid; filed = filed }));
+        beyond = λ done entries valid tried. no_spec request.packs l entries filed_for (unsettled, done) valid tried;
+      }
+
+  pub none_answer : (why : Reason) (text : Text) → EndsFor tile_meaning l why → (RootStands tile_meaning l → ⊥) → text ≡ none_line why (counts tile_meaning l) → IsSearchAnswer request 1 text (Some l)
+  none_answer why text ends unsettled line =
+      let ne = not_found l why ends unsettled in
+      none l why text ne (without unsettled) (record { explored = explored why ends; says = none_text request.basis request.terms l why text ne line })
+
+  pub found_answer : (entries : TileEntries) (steps : List Step) (text : Text) → Picked tile_meaning l 0 entries → IsFiledSpec tile_meaning l entries → steps ≡ trace (root_of request.basis)
+      → text ≡ spec_text request.basis steps entries (terms_to request.terms (class_counts tile_meaning entries 0)) → IsSearchAnswer request 0 text (Some l)
+  found_answer entries steps text picked spec traced written =
+      let terms : terms_to request.terms (class_counts tile_meaning entries 0) ≡ terms_of request.basis request.terms = same_terms request.terms (class_counts tile_meaning entries 0) (avoiders request.basis) (root_counts request.basis l entries own_root spec.valid) in
+      found l text
+      (record {
+        explored = explored Found (stands l entries picked);
+        says = record { entries = entries; spec = record { picked = picked; valid = spec.valid; filed = spec.filed }; written = written ∙ (λ i. spec_text request.basis (traced i) entries (terms i)) };
+      })

@@ -1,0 +1,4 @@
+pub mod Words
+pub mod Usage
+pub mod Searches
+pub mod Answers

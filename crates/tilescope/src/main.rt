@@ -1,0 +1,44 @@
+//! Searches for combinatorial specifications of permutation classes. The command words, the printed
+//! lines and the statuses are those of docs/FORMATS.md.
+#![tactic(auto)]
+
+mod answer;
+mod by_pack;
+mod none_line;
+mod root;
+mod run;
+mod usage;
+mod words;
+
+use outside::{StdSink, StdSource};
+use run::run_plain;
+use std::env;
+use std::io::{self, ErrorKind};
+use std::process::ExitCode;
+
+/// The words after the program's name.
+fn command_words(rt: &HostRuntime) -> io::Result<Vec<String>> {
+    let mut words = Vec::new(rt.alloc());
+    for word in env::args(rt)?.skip(1) {
+        words.push(word)?;
+    }
+    Ok(words)
+}
+
+fn main(rt: HostRuntime) -> io::Result<ExitCode> {
+    // Arguments that are no text are refused like words that have no form.
+    let words = match command_words(&rt) {
+        Ok(words) => words,
+        Err(error) => match error.kind() {
+            ErrorKind::OutOfMemory => return Ok(ExitCode::from(6)),
+            _ => Vec::new(rt.alloc()),
+        },
+    };
+    let mut source = StdSource::new(rt.stdin());
+    let mut sink = StdSink::new(rt.stdout());
+    let ended = run_plain(rt.alloc(), words.as_slice(), &mut source, &mut sink);
+    Ok(ExitCode::from(ended.status))
+}
+
+#[cfg(test)]
+mod tests;
