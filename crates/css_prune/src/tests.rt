@@ -139,11 +139,11 @@ fn a_products_child_is_shorter_beside_a_positive_one(rt: HostRuntime) -> Result<
     Ok(())
 }
 
-/// Numbers without members; the rule of a number makes it from nothing.
-struct Leaves;
+/// Numbers without members; the rule of a number makes it from itself.
+struct Numbers;
 
-impl Domain for Leaves {
-    ghost use Rattle.std.specs.Prelude.{false, [], nat_eq, refl};
+impl Domain for Numbers {
+    ghost use Rattle.std.specs.Prelude.{false, [], ◌∷◌, nat_eq, refl};
     ghost use Rattle.std.proofs.lemmas.Bool.{eqb-true};
     ghost use Rattle.css_domain.specs.Meanings.{Meaning};
     ghost use Rattle.css_domain.specs.declared.shape.Shape.TheVariants.{Nothing};
@@ -152,14 +152,14 @@ impl Domain for Leaves {
 
     type Rule = u32;
 
-    ghost meaning = { record { same = nat_eq; positive = λ c. false; count = λ c n. 0; parent = λ r. r; children = λ r. []; shape = λ r. Nothing; holds = λ r. Unit {0}; complete = λ rulebook c rules. Unit {0} } };
+    ghost meaning = { record { same = nat_eq; positive = λ c. false; count = λ c n. 0; parent = λ r. r; children = λ r. r ∷ []; shape = λ r. Nothing; holds = λ r. Unit {0}; complete = λ rulebook c rules. Unit {0} } };
 
     fn parent(rule: &u32) -> &u32 {
         rule
     }
 
     fn arity(_rule: &u32) -> u32 {
-        0
+        1
     }
 
     fn child(rule: &u32, _slot: u32) -> &u32 {
@@ -191,16 +191,18 @@ impl Domain for Leaves {
     ghost none_of_length_0 = { λ c h. refl };
 }
 
-fn leaf(alloc: Global, class: u32, rule: u32) -> Entry<Leaves> {
-    Entry {
+/// The entry of a class by the rule of a number, whose child is the first entry.
+fn entry(alloc: Global, class: u32, rule: u32) -> Result<Entry<Numbers>, AllocError> {
+    let children = Vec::from_slice(alloc, &[0])?;
+    Ok(Entry {
         class,
         rule,
-        children: Sequence::of(Vec::new(alloc)),
+        children: Sequence::of(children),
         rank: 1,
-    }
+    })
 }
 
-fn fault_of(entries: Vec<Entry<Leaves>>) -> Option<SpecFault> {
+fn fault_of(entries: Vec<Entry<Numbers>>) -> Option<SpecFault> {
     if entries.len() >= 4 {
         return None;
     }
@@ -214,11 +216,11 @@ fn fault_of(entries: Vec<Entry<Leaves>>) -> Option<SpecFault> {
 fn faults_of_entries(rt: HostRuntime) -> Result<(), Fail> {
     let alloc = rt.alloc();
     assert_eq!(rt; fault_of(Vec::new(alloc)), Some(SpecFault::Empty));
-    let one = vec![in alloc; leaf(alloc, 7, 7)]?;
+    let one = vec![in alloc; entry(alloc, 7, 7)?]?;
     assert_eq!(rt; fault_of(one), None);
-    let other = vec![in alloc; leaf(alloc, 7, 8)]?;
+    let other = vec![in alloc; entry(alloc, 7, 8)?]?;
     assert_eq!(rt; fault_of(other), Some(SpecFault::Rule { entry: 0 }));
-    let twice = vec![in alloc; leaf(alloc, 7, 7), leaf(alloc, 7, 7)]?;
+    let twice = vec![in alloc; entry(alloc, 7, 7)?, entry(alloc, 7, 7)?]?;
     assert_eq!(rt; fault_of(twice), Some(SpecFault::Rule { entry: 1 }));
     Ok(())
 }
