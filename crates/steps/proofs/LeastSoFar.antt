@@ -38,7 +38,7 @@ take_ascends zero xs h = tt
 take_ascends (suc i) [] h = tt
 take_ascends (suc i) (x ∷ xs) h = (take_all_less x i xs h.0, take_ascends i xs h.1)
 
-at_is_in : (i : ℕ) (xs : List (List Point)) (d : List Point) → i < length xs → IsIn (get_or xs i d) xs
+pub at_is_in : (i : ℕ) (xs : List (List Point)) (d : List Point) → i < length xs → IsIn (get_or xs i d) xs
 at_is_in i [] d b = absurd (omega arith)
 at_is_in zero (x ∷ xs) d b = here
 at_is_in (suc i) (x ∷ xs) d b = later x (at_is_in i xs d (omega arith))
@@ -97,6 +97,9 @@ module _ (patterns : List (List Point)) (are : AreGridded patterns) (s : IsStric
 
     held : (r : Bool) → holds_another (staying patterns (take i patterns)) g ≡ r → holds_another patterns g ≡ r
     held r e = let h = rw at at (held_among_staying i g b) in sym h ∙ e
+
+    pub so_far : holds_another patterns g ≡ true → holds_another (staying patterns (take i patterns)) g ≡ true
+    so_far e = let h = rw at at (held_among_staying i g b) in h ∙ e
 
     pub goes : holds_another (staying patterns (take i patterns)) g ≡ true → staying patterns (take i patterns) ≡ staying patterns (take (i + 1) patterns)
     goes e = rw (more, held true e) (sym (append-nil (staying patterns (take i patterns))))

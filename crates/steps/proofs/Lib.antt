@@ -3,6 +3,7 @@ pub mod ListTests
 pub mod Minimal
 pub mod Shorter
 pub mod LeastSoFar
+pub mod Inactive
 pub mod Small
 pub mod InGrid
 pub mod Members

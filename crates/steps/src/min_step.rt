@@ -1,15 +1,18 @@
 // The patterns of a list that hold no other of it.
-ghost use Rattle.std.specs.Prelude.{◌≡◌, not, ◌&&◌, IfOk, length, nat_lt};
+ghost use Rattle.std.specs.Prelude.{◌≡◌, true, not, ◌&&◌, IfOk, length, nat_lt};
 ghost use Rattle.std.specs.List.{list_any, take_while};
 ghost use Rattle.std.specs.List.Sorted.{IsStrictlySortedBy};
 ghost use Rattle.gridded.specs.Grids.{holds, IsGridded};
 ghost use Rattle.gridded.specs.Orders.{gridded_eq, gridded_cmp};
+ghost use Rattle.gridded.specs.CellSets.{is_among as has_cell};
+ghost use Rattle.gridded.specs.Places.{touches};
 ghost use Rattle.tiling_core.specs.Tiles.{tiling_of, AreGridded};
 ghost use Rattle.tiling_core.specs.Patterns.{holds_another, minimal};
+ghost use Rattle.steps.specs.Outside.{leaves, LeavingHolds};
 
-use gridded::{Gridded, holds};
+use gridded::{Cell, CellSet, Gridded, holds};
 use std::alloc::{AllocError, Global};
-use tiling_core::Tiling;
+use tiling_core::{Tiling, active};
 
 /// Whether g holds another pattern, which is then shorter.
 #[tactic(auto, using(crate::proofs::Minimal::shorter_and_held))]
@@ -66,16 +69,65 @@ pub(crate) fn minimal(alloc: Global, patterns: &[Gridded]) -> Result<Vec<Gridded
         .collect(alloc)
 }
 
-/// The patterns of an ascending list that hold no other of it, in their order. A pattern that holds another holds
-/// one that stays, which stands before it, so it is tested against those that stay alone.
-fn least(alloc: Global, patterns: &[Gridded]) -> Result<Vec<Gridded>, AllocError>
+/// Whether a cell isn't in a set.
+#[tactic(auto, using(crate::proofs::Inactive::far_outside, crate::proofs::Inactive::high_outside))]
+fn is_outside(cells: CellSet, cell: Cell) -> bool
+    ensures { result ≡ not (has_cell cells cell) }
+{
+    // What a set keeps is known once it is read.
+    let _ = cells.count();
+    if cell.x > 7 {
+        return true;
+    }
+    if cell.y > 7 {
+        return true;
+    }
+    !cells.has(cell)
+}
+
+/// Whether a pattern has a point outside some cells.
+fn has_outside(g: &Gridded, cells: CellSet) -> bool
+    ensures { result ≡ touches (λ c. not (has_cell cells c)) g.now }
+{
+    g.cells().iter().any(|cell| is_outside(cells, *cell))
+}
+
+/// Whether a pattern has two points or more, one of them outside some cells.
+fn leaves(g: &Gridded, cells: CellSet) -> bool
+    ensures { result ≡ leaves cells g.now }
+{
+    1 < g.len() && has_outside(g, cells)
+}
+
+/// Whether g holds another pattern of an ascending list, where it is known to if it leaves some cells.
+fn holds_shorter_or_leaves(patterns: &[Gridded], cells: CellSet, g: &Gridded) -> bool
     requires gridded { AreGridded patterns.now }
     requires ascending { IsStrictlySortedBy gridded_cmp patterns.now }
+    requires leaving { leaves cells g.now ≡ true → holds_another patterns.now g.now ≡ true }
+    ensures { result ≡ holds_another patterns.now g.now }
+{
+    if leaves(g, cells) {
+        return true;
+    }
+    holds_shorter(patterns, g)
+}
+
+/// The patterns of an ascending list that hold no other of it, in their order. A pattern that holds another holds
+/// one that stays, which stands before it, so it is tested against those that stay alone, and not at all where it
+/// leaves the active cells.
+fn least(
+    alloc: Global,
+    patterns: &[Gridded],
+    active: CellSet,
+) -> Result<Vec<Gridded>, AllocError>
+    requires gridded { AreGridded patterns.now }
+    requires ascending { IsStrictlySortedBy gridded_cmp patterns.now }
+    requires leaving { LeavingHolds active patterns.now }
     ensures { IfOk result (λ kept. kept.items ≡ minimal patterns.now) }
 {
     let mut kept = Vec::new(alloc);
     for g in patterns {
-        if !holds_shorter(&kept, g) {
+        if !holds_shorter_or_leaves(&kept, active, g) {
             kept.push(*g)?;
         }
     }
@@ -83,13 +135,14 @@ fn least(alloc: Global, patterns: &[Gridded]) -> Result<Vec<Gridded>, AllocError
 }
 
 /// The tiling without the obstructions that hold another.
-#[tactic(auto, using(crate::proofs::InGrid::minimal_in_grid))]
+#[tactic(auto, using(crate::proofs::InGrid::minimal_in_grid, crate::proofs::Inactive::leaving_holds))]
 pub(crate) fn without_redundant(alloc: Global, tiling: Tiling) -> Result<Tiling, AllocError>
     ensures { IfOk result (λ left. left ≡ tiling_of tiling.width tiling.height (minimal tiling.obstructions) tiling.requirements) }
 {
     let width = tiling.width();
     let height = tiling.height();
+    let active = active(&tiling);
     let (obstructions, lists) = tiling.into_parts();
-    let kept = least(alloc, &obstructions)?;
+    let kept = least(alloc, &obstructions, active)?;
     Tiling::in_grid(width, height, kept, lists)
 }
