@@ -7,3 +7,4 @@ pub mod Firsts
 pub mod Tilings
 pub mod LinesAlone
 pub mod Knowing
+pub mod UsedLines

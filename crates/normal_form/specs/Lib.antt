@@ -1,3 +1,4 @@
 pub mod Measure
 pub mod TraceLaws
 pub mod Known
+pub mod Lines

@@ -8,9 +8,11 @@ ghost use Rattle.steps.specs.Traces.{first_step};
 ghost use Rattle.steps.specs.declared.Step.TheVariants.{Min, Clean, Column, Row};
 ghost use Rattle.std.specs.Option.{option_or};
 ghost use Rattle.normal_form.specs.Known.{IsKnown};
+ghost use Rattle.normal_form.specs.Lines.{AreUsed};
 
 use crate::known::Known;
-use gridded::Cell;
+use crate::lines::{line_applies, used_cells};
+use gridded::{Cell, CellSet};
 use steps::{Step, applies};
 use tiling_core::Tiling;
 
@@ -36,31 +38,34 @@ fn first_cell(tiling: &Tiling) -> Option<Step>
 }
 
 /// The first column that can go, as a step.
-fn first_column(tiling: &Tiling) -> Option<Step>
+fn first_column(tiling: &Tiling, used: CellSet) -> Option<Step>
+    requires { AreUsed used tiling.now }
     ensures { result ≡ find (λ s. step_applies s tiling.now) (map (λ x. Column x) (range_with_len 0 tiling.now.width)) }
 {
     (0..tiling.width())
         .map(|column| Step::Column(column))
-        .find(|step| applies(*step, tiling))
+        .find(|step| line_applies(*step, tiling, used))
 }
 
 /// The first row that can go, as a step.
-fn first_row(tiling: &Tiling) -> Option<Step>
+fn first_row(tiling: &Tiling, used: CellSet) -> Option<Step>
+    requires { AreUsed used tiling.now }
     ensures { result ≡ find (λ s. step_applies s tiling.now) (map (λ y. Row y) (range_with_len 0 tiling.now.height)) }
 {
     (0..tiling.height())
         .map(|row| Step::Row(row))
-        .find(|step| applies(*step, tiling))
+        .find(|step| line_applies(*step, tiling, used))
 }
 
 /// The first column that can go, else the first row, as a step.
 fn first_line(tiling: &Tiling) -> Option<Step>
     ensures { result ≡ option_or (find (λ s. step_applies s tiling.now) (map (λ x. Column x) (range_with_len 0 tiling.now.width))) (find (λ s. step_applies s tiling.now) (map (λ y. Row y) (range_with_len 0 tiling.now.height))) }
 {
-    if let Some(step) = first_column(tiling) {
+    let used = used_cells(tiling);
+    if let Some(step) = first_column(tiling, used) {
         return Some(step);
     }
-    first_row(tiling)
+    first_row(tiling, used)
 }
 
 /// Whether Min applies, looked at only where it isn't known.

@@ -5,6 +5,7 @@ mod first;
 mod form;
 mod known;
 mod law;
+mod lines;
 
 pub use form::normalise;
 pub use law::{replays_keep_members, steps_shrink, traces_are_determined};

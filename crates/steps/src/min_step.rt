@@ -115,11 +115,7 @@ fn holds_shorter_or_leaves(patterns: &[Gridded], cells: CellSet, g: &Gridded) ->
 /// The patterns of an ascending list that hold no other of it, in their order. A pattern that holds another holds
 /// one that stays, which stands before it, so it is tested against those that stay alone, and not at all where it
 /// leaves the active cells.
-fn least(
-    alloc: Global,
-    patterns: &[Gridded],
-    active: CellSet,
-) -> Result<Vec<Gridded>, AllocError>
+fn least(alloc: Global, patterns: &[Gridded], active: CellSet) -> Result<Vec<Gridded>, AllocError>
     requires gridded { AreGridded patterns.now }
     requires ascending { IsStrictlySortedBy gridded_cmp patterns.now }
     requires leaving { LeavingHolds active patterns.now }

@@ -1,0 +1,19 @@
+use Rattle.std.proofs.Common.{◌≡◌, Bool, List, ap, sym, ◌∙◌}
+use Rattle.std.specs.Prelude.{◌||◌}
+use Rattle.std.specs.List.{list_any}
+use Rattle.gridded.specs.declared.cell.Cell.{Cell}
+use Rattle.gridded.specs.Grids.{Point}
+use Rattle.gridded.specs.Places.{touches}
+use Rattle.normal_form.proofs.UsedLines.{grows, whole, none_yet}
+use Rattle.normal_form.proofs.lines.with_lists.Goals as goal
+
+pub loop-patterns-init : goal.loop-patterns-init
+loop-patterns-init c = λ test. none_yet (list_any (touches test)) c.args.lists.now (list_any test c.args.set)
+
+pub loop-patterns-preserved : goal.loop-patterns-preserved
+loop-patterns-preserved c = λ test.
+    grows (list_any (touches test)) c.args.lists.now c.loop-patterns.patterns-index c.patterns-item.result (list_any test c.args.set) (list_any test c.loop-patterns.larger) (list_any test c.with_patterns-larger.result) c.loop-patterns-test.true (c.loop-patterns.invariant test)
+    (c.with_patterns-larger.ensures test ∙ ap (λ (patterns : List (List Point)). list_any test c.loop-patterns.larger || list_any (touches test) patterns) (c.as_slice.ensures ∙ c.patterns-item.is))
+
+pub returns : goal.returns
+returns c = λ test. whole (list_any (touches test)) c.args.lists.now c.loop-patterns.patterns-index (list_any test c.args.set) (list_any test c.loop-patterns.larger) c.loop-patterns-test.false (c.loop-patterns.invariant test)

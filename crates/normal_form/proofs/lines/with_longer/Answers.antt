@@ -1,0 +1,19 @@
+use Rattle.std.proofs.Common.{◌≡◌, Bool, List, ap, sym, ◌∙◌}
+use Rattle.std.specs.Prelude.{◌||◌}
+use Rattle.std.specs.List.{list_any}
+use Rattle.gridded.specs.declared.cell.Cell.{Cell}
+use Rattle.gridded.specs.Grids.{Point}
+use Rattle.normal_form.specs.Lines.{touches_longer}
+use Rattle.normal_form.proofs.UsedLines.{grows, whole, none_yet}
+use Rattle.normal_form.proofs.lines.with_longer.Goals as goal
+
+pub loop-g-init : goal.loop-g-init
+loop-g-init c = λ test. none_yet (touches_longer test) c.args.patterns.now (list_any test c.args.set)
+
+pub loop-g-preserved : goal.loop-g-preserved
+loop-g-preserved c = λ test.
+    grows (touches_longer test) c.args.patterns.now c.loop-g.g-index c.g-item.result (list_any test c.args.set) (list_any test c.loop-g.larger) (list_any test c.with_one_longer-larger.result) c.loop-g-test.true (c.loop-g.invariant test)
+    (c.with_one_longer-larger.ensures test ∙ ap (λ (g : List Point). list_any test c.loop-g.larger || touches_longer test g) c.g-item.is)
+
+pub returns : goal.returns
+returns c = λ test. whole (touches_longer test) c.args.patterns.now c.loop-g.g-index (list_any test c.args.set) (list_any test c.loop-g.larger) c.loop-g-test.false (c.loop-g.invariant test)
