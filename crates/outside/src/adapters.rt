@@ -3,7 +3,7 @@ ghost use Rattle.std.specs.Io.KnownBytes.{ReadConsumes, WriteAppends};
 ghost use Rattle.outside.specs.Bytes.{moved_count};
 ghost use Rattle.outside.specs.Counts.{Rose};
 
-use crate::faults::Failed;
+use crate::faults::{Failed, count_up};
 use crate::sinks::Sink;
 use crate::sources::Source;
 use std::io::{ErrorKind, Read, Write};
@@ -53,6 +53,8 @@ impl<T: Read> Source for StdSource<T> {
 
     ghost faults = { λ s. s.faults };
 
+    ghost calls = { λ _. 0 };
+
     /// Makes one call of the reader, and another one as long as it is interrupted.
     fn read(&mut self, into: &mut [u8]) -> Result<usize, Failed>
         ensures bound { IfOk result (λ n. n ≤ length into.new) }
@@ -72,14 +74,14 @@ impl<T: Read> Source for StdSource<T> {
                     return Ok(count);
                 }
                 Err(error) => {
-                    self.faults = self.faults.saturating_add(1);
+                    count_up(&mut self.faults);
                     if error.kind() != ErrorKind::Interrupted {
                         return Err(Failed);
                     }
                 }
             }
         }
-        self.faults = self.faults.saturating_add(1);
+        count_up(&mut self.faults);
         Err(Failed)
     }
 }
@@ -138,14 +140,14 @@ impl<T: Write> Sink for StdSink<T> {
                 Ok(count) if count > 0 || piece.is_empty() => return Ok(count),
                 Ok(_) => break,
                 Err(error) => {
-                    self.faults = self.faults.saturating_add(1);
+                    count_up(&mut self.faults);
                     if error.kind() != ErrorKind::Interrupted {
                         return Err(Failed);
                     }
                 }
             }
         }
-        self.faults = self.faults.saturating_add(1);
+        count_up(&mut self.faults);
         Err(Failed)
     }
 }

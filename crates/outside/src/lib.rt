@@ -10,13 +10,15 @@ mod sources;
 mod steady;
 
 pub use adapters::{StdSink, StdSource};
-pub use faults::Failed;
-pub use memory::MemSink;
+pub use faults::{Failed, ReadFault};
+pub use memory::{MemSink, MemSource};
 pub use sinks::{Sink, write_all};
-pub use sources::Source;
+pub use sources::{Source, read_all};
 pub use steady::{SteadySink, SteadySource};
 
 #[cfg(test)]
 mod adapters_tests;
+#[cfg(test)]
+mod reading_tests;
 #[cfg(test)]
 mod tests;

@@ -39,6 +39,8 @@ impl Source for SteadySource {
 
     ghost faults = { λ _. 0 };
 
+    ghost calls = { λ _. 0 };
+
     /// Gives as many bytes as are left and as `into` has places for.
     fn read(&mut self, into: &mut [u8]) -> Result<usize, Failed>
         ensures amount { result ≡ Ok (min (length self.old) (length into.old)) }
