@@ -4,6 +4,8 @@
 mod alone;
 mod expander;
 mod reason;
+#[cfg(test)]
+mod tests;
 
 pub use alone::{Solved, solve_alone};
 pub use expander::Expander;
