@@ -10,3 +10,4 @@ pub mod Counted
 pub mod SmallPatterns
 pub mod NoMembers
 pub mod Inferring
+pub mod Witness

@@ -92,3 +92,5 @@ none-held g patterns e = all_pass (λ p. not (holds g p)) patterns (λ p m. not_
 
 pub member-avoiding : (t : Tiles) (g : List Point) → list_any (λ p. holds g p) t.obstructions ≡ false → is_member t g ≡ (fits_grid t.width t.height g && list_all (λ patterns. list_any (λ p. holds g p) patterns) t.requirements)
 member-avoiding t g e = rw (none-held g t.obstructions e) refl
+
+pub ruleset avoiding = (member-avoiding)

@@ -22,11 +22,12 @@ pub fn is_empty(alloc: Global, tiling: &Tiling) -> Result<bool, EmptyFault>
         return Err(EmptyFault::Heavy);
     }
     let nothing = Gridded::from_consistent(&[], &[]);
+    let mut member = nothing;
     if holds_one(&nothing, tiling.obstructions()) {
         return Ok(true);
     }
     let no_index = Vec::new(alloc);
-    Ok(!reaches(tiling, &no_index, &nothing, 0))
+    Ok(!reaches(tiling, &no_index, &nothing, 0, &mut member))
 }
 
 /// A tiling that has a member has one whose length is at most its weight.

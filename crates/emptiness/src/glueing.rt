@@ -1,8 +1,9 @@
-ghost use Rattle.std.specs.Prelude.{◌≡◌, ◌<◌, ◌≤◌, ◌+◌, ◌-◌, ◌&&◌, false, length, drop, slice_index_or};
+ghost use Rattle.std.specs.Prelude.{◌≡◌, ◌<◌, ◌≤◌, ◌+◌, ◌-◌, ◌&&◌, true, false, length, drop, slice_index_or};
 ghost use Rattle.std.specs.List.{list_all, list_any};
 ghost use Rattle.gridded.specs.Grids.{holds};
 ghost use Rattle.gridded.specs.Orders.{cells_of};
 ghost use Rattle.gridded.specs.Places.{fits_grid};
+ghost use Rattle.tiling_core.specs.Tiles.{is_member};
 ghost use Rattle.emptiness.specs.ByCell.{IsByCell};
 ghost use Rattle.emptiness.specs.Glueing.{stands_in, weight_of, reaches, glues, glues_at, joins, onward, corner};
 
@@ -36,25 +37,46 @@ fn belongs(tiling: &Tiling, g: &Gridded) -> bool
     g.fits_grid(tiling.width(), tiling.height()) && meets_each(tiling, g)
 }
 
+/// Whether it is a member, where it holds no obstruction; it is then told.
+#[tactic(auto, using(crate::proofs::Untouched::avoiding))]
+fn is_reached(tiling: &Tiling, g: &Gridded, member: &mut Gridded) -> bool
+    requires { list_any (λ p. holds g.now p) tiling.now.obstructions ≡ false }
+    ensures value { result ≡ is_member tiling.now g.now }
+    ensures told { result ≡ true → is_member tiling.now member.new ≡ true }
+{
+    if !belongs(tiling, g) {
+        return false;
+    }
+    *member = *g;
+    true
+}
+
 /// Whether a member is reached from a gridded permutation, which holds no obstruction, by patterns of the
-/// lists from a number on.
+/// lists from a number on; it is then told.
 #[cycle(glueing)]
-pub(crate) fn reaches(tiling: &Tiling, index: &[At], g: &Gridded, list: usize) -> bool
+pub(crate) fn reaches(
+    tiling: &Tiling,
+    index: &[At],
+    g: &Gridded,
+    list: usize,
+    member: &mut Gridded,
+) -> bool
     requires indexed { IsByCell tiling.now.obstructions index.now }
     requires avoids { list_any (λ p. holds g.now p) tiling.now.obstructions ≡ false }
     requires within { list ≤ length tiling.now.requirements }
     requires room { length g.now + weight_of (drop list tiling.now.requirements) ≤ 9 }
-    ensures { result ≡ reaches tiling.now (drop list tiling.now.requirements) g.now }
+    ensures value { result ≡ reaches tiling.now (drop list tiling.now.requirements) g.now }
+    ensures told { result ≡ true → is_member tiling.now member.new ≡ true }
 {
     if list == tiling.requirements().len() {
-        return belongs(tiling, g);
+        return is_reached(tiling, g, member);
     }
     let patterns = tiling.requirements()[list].as_slice();
     if holds_one(g, patterns) {
-        return reaches(tiling, index, g, list + 1);
+        return reaches(tiling, index, g, list + 1, member);
     }
     for pattern in patterns {
-        if glues(tiling, index, g, pattern, list + 1, 0, 0) {
+        if glues(tiling, index, g, pattern, list + 1, 0, 0, member) {
             return true;
         }
     }
@@ -72,6 +94,7 @@ fn glues(
     list: usize,
     taken: usize,
     from: usize,
+    member: &mut Gridded,
 ) -> bool
     requires indexed { IsByCell tiling.now.obstructions index.now }
     requires avoids { list_any (λ p. holds g.now p) tiling.now.obstructions ≡ false }
@@ -79,13 +102,14 @@ fn glues(
     requires of_pattern { taken ≤ length pattern.now }
     requires of_points { from ≤ length g.now }
     requires room { length g.now + (length pattern.now - taken) + weight_of (drop list tiling.now.requirements) ≤ 9 }
-    ensures { result ≡ glues tiling.now.obstructions pattern.now (λ h. reaches tiling.now (drop list tiling.now.requirements) h) (drop taken (cells_of pattern.now)) from g.now }
+    ensures value { result ≡ glues tiling.now.obstructions pattern.now (λ h. reaches tiling.now (drop list tiling.now.requirements) h) (drop taken (cells_of pattern.now)) from g.now }
+    ensures told { result ≡ true → is_member tiling.now member.new ≡ true }
 {
     if taken == pattern.cells().len() {
-        return holds(g, pattern) && reaches(tiling, index, g, list);
+        return holds(g, pattern) && reaches(tiling, index, g, list, member);
     }
     for place in from..g.cells().len() + 1 {
-        if glues_at(tiling, index, g, pattern, list, taken, place) {
+        if glues_at(tiling, index, g, pattern, list, taken, place, member) {
             return true;
         }
     }
@@ -102,6 +126,7 @@ fn glues_at(
     list: usize,
     taken: usize,
     place: usize,
+    member: &mut Gridded,
 ) -> bool
     requires indexed { IsByCell tiling.now.obstructions index.now }
     requires avoids { list_any (λ p. holds g.now p) tiling.now.obstructions ≡ false }
@@ -109,15 +134,27 @@ fn glues_at(
     requires of_pattern { taken < length pattern.now }
     requires of_points { place ≤ length g.now }
     requires room { length g.now + (length pattern.now - taken) + weight_of (drop list tiling.now.requirements) ≤ 9 }
-    ensures { result ≡ glues_at tiling.now.obstructions (onward tiling.now pattern.now list taken) (slice_index_or (cells_of pattern.now) taken corner) g.now place }
+    ensures value { result ≡ glues_at tiling.now.obstructions (onward tiling.now pattern.now list taken) (slice_index_or (cells_of pattern.now) taken corner) g.now place }
+    ensures told { result ≡ true → is_member tiling.now member.new ≡ true }
 {
     if stands_in(g, place, pattern.cells()[taken]) {
-        if glues(tiling, index, g, pattern, list, taken + 1, place + 1) {
+        if glues(
+            tiling,
+            index,
+            g,
+            pattern,
+            list,
+            taken + 1,
+            place + 1,
+            member,
+        ) {
             return true;
         }
     }
     for letter in 0..g.cells().len() + 1 {
-        if joins(tiling, index, g, pattern, list, taken, place, letter) {
+        if joins(
+            tiling, index, g, pattern, list, taken, place, letter, member,
+        ) {
             return true;
         }
     }
@@ -136,6 +173,7 @@ fn joins(
     taken: usize,
     place: usize,
     letter: usize,
+    member: &mut Gridded,
 ) -> bool
     requires indexed { IsByCell tiling.now.obstructions index.now }
     requires avoids { list_any (λ p. holds g.now p) tiling.now.obstructions ≡ false }
@@ -144,7 +182,8 @@ fn joins(
     requires of_points { place ≤ length g.now }
     requires of_letters { letter ≤ length g.now }
     requires room { length g.now + (length pattern.now - taken) + weight_of (drop list tiling.now.requirements) ≤ 9 }
-    ensures { result ≡ joins tiling.now.obstructions (onward tiling.now pattern.now list taken) (slice_index_or (cells_of pattern.now) taken corner) g.now place letter }
+    ensures value { result ≡ joins tiling.now.obstructions (onward tiling.now pattern.now list taken) (slice_index_or (cells_of pattern.now) taken corner) g.now place letter }
+    ensures told { result ≡ true → is_member tiling.now member.new ≡ true }
 {
     let cell = pattern.cells()[taken];
     if !fits_at(g, place, letter as u8, cell) {
@@ -154,5 +193,14 @@ fn joins(
     if holds_one_at(&longer, cell, tiling.obstructions(), index) {
         return false;
     }
-    glues(tiling, index, &longer, pattern, list, taken + 1, place + 1)
+    glues(
+        tiling,
+        index,
+        &longer,
+        pattern,
+        list,
+        taken + 1,
+        place + 1,
+        member,
+    )
 }

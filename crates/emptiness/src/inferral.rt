@@ -1,10 +1,10 @@
 ghost use Rattle.std.specs.Prelude.{◌≡◌, ◌≤◌, ◌<◌, ◌+◌, nat_le, length, IfOk, OnOk, IfErr, All, filter};
 ghost use Rattle.std.specs.List.{list_any};
-ghost use Rattle.gridded.specs.Grids.{holds};
+ghost use Rattle.gridded.specs.Grids.{holds, IsGridded};
 ghost use Rattle.tiling_core.specs.Measures.{weight};
 ghost use Rattle.tiling_core.specs.Patterns.{active_cells};
 ghost use Rattle.emptiness.specs.ByCell.{IsByCell};
-ghost use Rattle.emptiness.specs.Candidates.{is_unheld};
+ghost use Rattle.emptiness.specs.Candidates.{is_unheld, AreMembers};
 ghost use Rattle.emptiness.specs.Emptiness.{IsInferredOf};
 ghost use Rattle.emptiness.specs.Inferable.{inferred};
 ghost use Rattle.emptiness.specs.Refused.{IsInferRefused};
@@ -13,7 +13,7 @@ use crate::by_cell::{At, by_cell, holds_one};
 use crate::candidates::candidates;
 use crate::fault::InferFault;
 use crate::glueing::reaches;
-use gridded::{Cell, Gridded};
+use gridded::{Cell, Gridded, holds};
 use sequences::ascending;
 use std::alloc::{AllocError, Global};
 use tiling_core::{Tiling, active, weight};
@@ -37,10 +37,47 @@ pub(crate) fn is_unheld(tiling: &Tiling, short: &[Gridded], index: &[At], patter
     requires room { length pattern.now + weight tiling.now ≤ 9 }
     ensures { result ≡ is_unheld tiling.now pattern.now }
 {
+    let mut member = *pattern;
+    !holds_one(pattern, short) && !reaches(tiling, index, pattern, 0, &mut member)
+}
+
+/// Whether one of some gridded permutations holds a pattern.
+fn is_held_by_one(members: &[Gridded], pattern: &Gridded) -> bool
+    ensures value { result ≡ list_any (λ m. holds m pattern.now) members.now }
+    ensures gridded { IsGridded pattern.now }
+{
+    let _ = pattern.len();
+    members.iter().any(|member| holds(member, pattern))
+}
+
+/// The same, where what some members hold needs no search; a member that a search finds joins them.
+fn is_unheld_after(
+    tiling: &Tiling,
+    short: &[Gridded],
+    index: &[At],
+    pattern: &Gridded,
+    members: &mut Vec<Gridded>,
+) -> Result<bool, AllocError>
+    requires indexed { IsByCell tiling.now.obstructions index.now }
+    requires shortened { list_any (λ o. holds pattern.now o) short.now ≡ list_any (λ o. holds pattern.now o) tiling.now.obstructions }
+    requires room { length pattern.now + weight tiling.now ≤ 9 }
+    requires known { AreMembers tiling.now members.old.items }
+    ensures value { IfOk result (λ unheld. unheld ≡ is_unheld tiling.now pattern.now) }
+    ensures known { OnOk result (AreMembers tiling.now members.new.items) }
+{
     if holds_one(pattern, short) {
-        return false;
+        return Ok(false);
     }
-    !reaches(tiling, index, pattern, 0)
+    if is_held_by_one(members, pattern) {
+        return Ok(false);
+    }
+    let mut member = *pattern;
+    if !reaches(tiling, index, pattern, 0, &mut member) {
+        return Ok(true);
+    }
+    let _ = member.len();
+    members.push(member)?;
+    Ok(false)
 }
 
 /// Those of the patterns that hold no obstruction and that no member holds.
@@ -57,8 +94,9 @@ fn unheld(
 {
     let short = short_ones(alloc, tiling.obstructions())?;
     let mut found = Vec::new(alloc);
+    let mut members = Vec::new(alloc);
     for pattern in patterns {
-        if is_unheld(tiling, &short, index, pattern) {
+        if is_unheld_after(tiling, &short, index, pattern, &mut members)? {
             found.push(*pattern)?;
         }
     }

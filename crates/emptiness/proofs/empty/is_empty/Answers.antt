@@ -12,4 +12,4 @@ returns-then-holds_one-clause-exact c =
     empty_answer c.args.tiling.now false (sym (nothing_reached c.args.tiling.now held))
 
 pub returns-clause-exact : goal.returns-clause-exact
-returns-clause-exact c = empty_answer c.args.tiling.now c.reaches.result (c.reaches.ensures ∙ ap (λ g. reaches c.args.tiling.now c.args.tiling.now.requirements g) c.from_consistent-nothing.ensures)
+returns-clause-exact c = empty_answer c.args.tiling.now c.reaches.result (c.reaches.ensures.value ∙ ap (λ g. reaches c.args.tiling.now c.args.tiling.now.requirements g) c.from_consistent-nothing.ensures)

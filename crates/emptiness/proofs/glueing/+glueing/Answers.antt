@@ -18,36 +18,36 @@ glues_at-glues-requires t c =
     let there = stands-within c.args.place _ c.args.g.now (sym c.stands_in.ensures ∙ c.if-stands_in.true) in
     (search rules, (c.requires.indexed, (c.requires.avoids, (omega arith, (omega arith, (omega arith, omega arith))))))
 
-pub glues-returns-then-holds : goal.glues-returns-then-holds
-glues-returns-then-holds t c =
+pub glues-returns-then-holds-clause-value : goal.glues-returns-then-holds-clause-value
+glues-returns-then-holds-clause-value t c =
     let N : List Point → Bool = λ h. reaches c.args.tiling.now (drop c.args.list c.args.tiling.now.requirements) h in
     let past : length (cells_of c.args.pattern.now) ≤ c.args.taken = omega (arith, ap (λ s. length s) c.cells.ensures.value) in
     let held : holds c.args.g.now c.args.pattern.now ≡ true = sym c.holds.ensures.tested ∙ c.if-holds.true in
-    c.reaches.ensures ∙ sym (glues-end c.args.tiling.now.obstructions c.args.pattern.now N (cells_of c.args.pattern.now) c.args.taken c.args.from c.args.g.now past ∙ rw held refl)
+    c.reaches.ensures.value ∙ sym (glues-end c.args.tiling.now.obstructions c.args.pattern.now N (cells_of c.args.pattern.now) c.args.taken c.args.from c.args.g.now past ∙ rw held refl)
 
-pub glues-returns-else-holds : goal.glues-returns-else-holds
-glues-returns-else-holds t c =
+pub glues-returns-else-holds-clause-value : goal.glues-returns-else-holds-clause-value
+glues-returns-else-holds-clause-value t c =
     let N : List Point → Bool = λ h. reaches c.args.tiling.now (drop c.args.list c.args.tiling.now.requirements) h in
     let past : length (cells_of c.args.pattern.now) ≤ c.args.taken = omega (arith, ap (λ s. length s) c.cells.ensures.value) in
     let held : holds c.args.g.now c.args.pattern.now ≡ false = sym c.holds.ensures.tested ∙ c.if-holds.false in
     c.if-holds.false ∙ sym (glues-end c.args.tiling.now.obstructions c.args.pattern.now N (cells_of c.args.pattern.now) c.args.taken c.args.from c.args.g.now past ∙ rw held refl)
 
-pub glues-returns-then-glues_at : goal.glues-returns-then-glues_at
-glues-returns-then-glues_at t c =
+pub glues-returns-then-glues_at-clause-value : goal.glues-returns-then-glues_at-clause-value
+glues-returns-then-glues_at-clause-value t c =
     let N : List Point → Bool = λ h. reaches c.args.tiling.now (drop c.args.list c.args.tiling.now.requirements) h in
     let F : ℕ → Bool = λ i. glues_at c.args.tiling.now.obstructions (onward c.args.tiling.now c.args.pattern.now c.args.list c.args.taken) (get_or (cells_of c.args.pattern.now) c.args.taken corner) c.args.g.now i in
     let not_all : c.args.taken < length (cells_of c.args.pattern.now) = omega (arith, length-map c.args.pattern.now cell_of, ap (λ s. length s) c.cells.ensures.value) in
     let many : length c.cells-2.result.now ≡ length c.args.g.now = ap (λ s. length s) c.cells-2.ensures.value ∙ length-map c.args.g.now cell_of in
     sym (glues-step c.args.tiling.now.obstructions c.args.pattern.now N (cells_of c.args.pattern.now) c.args.taken c.args.from c.args.g.now not_all
-    ∙ any_below-here F c.args.from (length c.args.g.now + 1 - c.args.from) c.loop-place.place (omega arith) (omega arith) (sym c.glues_at.ensures ∙ c.if-glues_at.true))
+    ∙ any_below-here F c.args.from (length c.args.g.now + 1 - c.args.from) c.loop-place.place (omega arith) (omega arith) (sym c.glues_at.ensures.value ∙ c.if-glues_at.true))
 
 pub glues-loop-place-preserved : goal.glues-loop-place-preserved
 glues-loop-place-preserved t c =
     let F : ℕ → Bool = λ i. glues_at c.args.tiling.now.obstructions (onward c.args.tiling.now c.args.pattern.now c.args.list c.args.taken) (get_or (cells_of c.args.pattern.now) c.args.taken corner) c.args.g.now i in
-    any_below-more F c.args.from c.loop-place.place (omega arith) c.loop-place.invariant (sym c.glues_at.ensures ∙ c.if-glues_at.false)
+    any_below-more F c.args.from c.loop-place.place (omega arith) c.loop-place.invariant (sym c.glues_at.ensures.value ∙ c.if-glues_at.false)
 
-pub glues-returns : goal.glues-returns
-glues-returns t c =
+pub glues-returns-clause-value : goal.glues-returns-clause-value
+glues-returns-clause-value t c =
     let N : List Point → Bool = λ h. reaches c.args.tiling.now (drop c.args.list c.args.tiling.now.requirements) h in
     let F : ℕ → Bool = λ i. glues_at c.args.tiling.now.obstructions (onward c.args.tiling.now c.args.pattern.now c.args.list c.args.taken) (get_or (cells_of c.args.pattern.now) c.args.taken corner) c.args.g.now i in
     let not_all : c.args.taken < length (cells_of c.args.pattern.now) = omega (arith, length-map c.args.pattern.now cell_of, ap (λ s. length s) c.cells.ensures.value) in
@@ -67,22 +67,22 @@ joins-glues-requires t c =
     let avoids = subst (λ os. list_any (λ p. holds c.inserted-longer.result p) os ≡ false) c.obstructions.ensures.value (sym c.holds_one_at.ensures ∙ c.if-holds_one_at.false) in
     (search rules, (c.requires.indexed, (avoids, (omega arith, (omega arith, (omega arith, omega arith))))))
 
-pub glues_at-returns-then-joins : goal.glues_at-returns-then-joins
-glues_at-returns-then-joins t c =
+pub glues_at-returns-then-joins-clause-value : goal.glues_at-returns-then-joins-clause-value
+glues_at-returns-then-joins-clause-value t c =
     let N : ℕ → List Point → Bool = onward c.args.tiling.now c.args.pattern.now c.args.list c.args.taken in
     let C : Cell = get_or (cells_of c.args.pattern.now) c.args.taken corner in
     let F : ℕ → Bool = λ m. joins c.args.tiling.now.obstructions N C c.args.g.now c.args.place m in
     let many : length c.cells-2.result.now ≡ length c.args.g.now = ap (λ s. length s) c.cells-2.ensures.value ∙ length-map c.args.g.now cell_of in
-    let at = any_below-here F 0 (length c.args.g.now + 1) c.loop-letter.letter (omega arith) (omega arith) (sym c.joins.ensures ∙ c.if-joins.true) in
+    let at = any_below-here F 0 (length c.args.g.now + 1) c.loop-letter.letter (omega arith) (omega arith) (sym c.joins.ensures.value ∙ c.if-joins.true) in
     sym (rw at (or_all (falls_on N C c.args.g.now c.args.place)))
 
 pub glues_at-loop-letter-preserved : goal.glues_at-loop-letter-preserved
 glues_at-loop-letter-preserved t c =
     let F : ℕ → Bool = λ m. joins c.args.tiling.now.obstructions (onward c.args.tiling.now c.args.pattern.now c.args.list c.args.taken) (get_or (cells_of c.args.pattern.now) c.args.taken corner) c.args.g.now c.args.place m in
-    any_from_start-more F c.loop-letter.letter c.loop-letter.invariant (sym c.joins.ensures ∙ c.if-joins.false)
+    any_from_start-more F c.loop-letter.letter c.loop-letter.invariant (sym c.joins.ensures.value ∙ c.if-joins.false)
 
-pub glues_at-returns : goal.glues_at-returns
-glues_at-returns t c =
+pub glues_at-returns-clause-value : goal.glues_at-returns-clause-value
+glues_at-returns-clause-value t c =
     let O : List (List Point) = c.args.tiling.now.obstructions in
     let N : ℕ → List Point → Bool = onward c.args.tiling.now c.args.pattern.now c.args.list c.args.taken in
     let C : Cell = get_or (cells_of c.args.pattern.now) c.args.taken corner in
@@ -92,19 +92,19 @@ glues_at-returns t c =
     let none : joins_at O N C c.args.g.now c.args.place ≡ false = subst (λ (m : ℕ). list_any F (range_with_len 0 m) ≡ false) done c.loop-letter.invariant in
     let at : c.stands_in.result ≡ stands_in c.args.place C c.args.g.now = c.stands_in.ensures ∙ ap (λ cs. stands_in c.args.place (get_or cs c.args.taken corner) c.args.g.now) c.cells.ensures.value in
     let falls : falls_on N C c.args.g.now c.args.place ≡ false = elim c.if-stands_in.branch [
-      | glues_at-then-stands_in+else-glues w ↦ and_none (stands_in c.args.place C c.args.g.now) (N (c.args.place + 1) c.args.g.now) (sym w.glues.ensures ∙ w.if-glues.false)
+      | glues_at-then-stands_in+else-glues w ↦ and_none (stands_in c.args.place C c.args.g.now) (N (c.args.place + 1) c.args.g.now) (sym w.glues.ensures.value ∙ w.if-glues.false)
       | glues_at-else-stands_in w ↦ rw (sym at ∙ w.if-stands_in.false) refl
     ] in
     sym (neither (falls_on N C c.args.g.now c.args.place) (joins_at O N C c.args.g.now c.args.place) falls none)
 
-pub reaches-returns-then-list-requirements : goal.reaches-returns-then-list-requirements
-reaches-returns-then-list-requirements t c = c.belongs.ensures ∙ sym (member-avoiding c.args.tiling.now c.args.g.now c.requires.avoids) ∙ sym (reaches-end c.args.tiling.now c.args.tiling.now.requirements c.args.list c.args.g.now (omega (arith, ap (λ s. length s) c.requirements.ensures.value)))
+pub reaches-returns-then-list-requirements-clause-value : goal.reaches-returns-then-list-requirements-clause-value
+reaches-returns-then-list-requirements-clause-value t c = c.is_reached.ensures.value ∙ sym (reaches-end c.args.tiling.now c.args.tiling.now.requirements c.args.list c.args.g.now (omega (arith, ap (λ s. length s) c.requirements.ensures.value)))
 
-pub reaches-returns-then-holds_one : goal.reaches-returns-then-holds_one
-reaches-returns-then-holds_one t c =
+pub reaches-returns-then-holds_one-clause-value : goal.reaches-returns-then-holds_one-clause-value
+reaches-returns-then-holds_one-clause-value t c =
     let listed = still-there c.requirements-2.result.now c.args.tiling.now.requirements c.args.list c.index-requirements-list.result c.as_slice-patterns.result.now c.requirements-2.ensures.value c.index-requirements-list.is c.as_slice-patterns.ensures in
     let inside : c.args.list < length c.args.tiling.now.requirements = omega (arith, ap (λ s. length s) c.requirements.ensures.value) in
-    c.reaches.ensures ∙ sym (reaches-step c.args.tiling.now c.args.tiling.now.requirements c.args.list c.as_slice-patterns.result.now c.args.g.now inside listed ∙ rw (sym c.holds_one.ensures ∙ c.if-holds_one.true) refl)
+    c.reaches.ensures.value ∙ sym (reaches-step c.args.tiling.now c.args.tiling.now.requirements c.args.list c.as_slice-patterns.result.now c.args.g.now inside listed ∙ rw (sym c.holds_one.ensures ∙ c.if-holds_one.true) refl)
 
 pub reaches-glues-requires : goal.reaches-glues-requires
 reaches-glues-requires t c =
@@ -114,16 +114,16 @@ reaches-glues-requires t c =
     let small = longest-at c.as_slice-patterns.result.now c.loop-pattern.pattern-index c.pattern-item.result c.loop-pattern-test.true c.pattern-item.is in
     (search rules, (c.requires.indexed, (c.requires.avoids, (omega arith, (omega arith, (omega arith, omega arith))))))
 
-pub reaches-returns-then-glues : goal.reaches-returns-then-glues
-reaches-returns-then-glues t c =
+pub reaches-returns-then-glues-clause-value : goal.reaches-returns-then-glues-clause-value
+reaches-returns-then-glues-clause-value t c =
     let listed = still-there c.requirements-2.result.now c.args.tiling.now.requirements c.args.list c.index-requirements-list.result c.as_slice-patterns.result.now c.requirements-2.ensures.value c.index-requirements-list.is c.as_slice-patterns.ensures in
     let inside : c.args.list < length c.args.tiling.now.requirements = omega (arith, ap (λ s. length s) c.requirements.ensures.value) in
     let G : List Point → Bool = λ p. glues c.args.tiling.now.obstructions p (λ h. reaches c.args.tiling.now (drop (c.args.list + 1) c.args.tiling.now.requirements) h) (cells_of p) 0 c.args.g.now in
-    let here : G (get_or c.as_slice-patterns.result.now c.loop-pattern.pattern-index c.pattern-item.result) ≡ true = rw (sym c.pattern-item.is) (sym c.glues.ensures ∙ c.if-glues.true) in
+    let here : G (get_or c.as_slice-patterns.result.now c.loop-pattern.pattern-index c.pattern-item.result) ≡ true = rw (sym c.pattern-item.is) (sym c.glues.ensures.value ∙ c.if-glues.true) in
     sym (reaches-step c.args.tiling.now c.args.tiling.now.requirements c.args.list c.as_slice-patterns.result.now c.args.g.now inside listed ∙ rw (sym c.holds_one.ensures ∙ c.if-holds_one.false) (list_any_at G c.as_slice-patterns.result.now c.loop-pattern.pattern-index c.pattern-item.result c.loop-pattern-test.true here))
 
-pub reaches-returns : goal.reaches-returns
-reaches-returns t c =
+pub reaches-returns-clause-value : goal.reaches-returns-clause-value
+reaches-returns-clause-value t c =
     let listed = still-there c.requirements-2.result.now c.args.tiling.now.requirements c.args.list c.index-requirements-list.result c.as_slice-patterns.result.now c.requirements-2.ensures.value c.index-requirements-list.is c.as_slice-patterns.ensures in
     let inside : c.args.list < length c.args.tiling.now.requirements = omega (arith, ap (λ s. length s) c.requirements.ensures.value) in
     let done = take_all c.loop-pattern.pattern-index c.as_slice-patterns.result.now (omega arith) in
