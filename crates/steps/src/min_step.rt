@@ -1,5 +1,5 @@
 // The patterns of a list that hold no other of it.
-ghost use Rattle.std.specs.Prelude.{◌≡◌, true, not, ◌&&◌, IfOk, length, nat_lt};
+ghost use Rattle.std.specs.Prelude.{◌≡◌, ◌<◌, ◌≤◌, true, false, not, ◌&&◌, IfOk, length, nat_lt, take};
 ghost use Rattle.std.specs.List.{list_any, take_while};
 ghost use Rattle.std.specs.List.Sorted.{IsStrictlySortedBy};
 ghost use Rattle.gridded.specs.Grids.{holds, IsGridded};
@@ -8,7 +8,7 @@ ghost use Rattle.gridded.specs.CellSets.{is_among as has_cell};
 ghost use Rattle.gridded.specs.Places.{touches};
 ghost use Rattle.tiling_core.specs.Tiles.{tiling_of, AreGridded};
 ghost use Rattle.tiling_core.specs.Patterns.{holds_another, minimal};
-ghost use Rattle.steps.specs.Outside.{leaves, LeavingHolds};
+ghost use Rattle.steps.specs.Outside.{leaves, LeavingHolds, HoldsNoSingle, AreSingle};
 
 use gridded::{Cell, CellSet, Gridded, holds};
 use std::alloc::{AllocError, Global};
@@ -99,31 +99,68 @@ fn leaves(g: &Gridded, cells: CellSet) -> bool
     1 < g.len() && has_outside(g, cells)
 }
 
-/// Whether g holds another pattern of an ascending list, where it is known to if it leaves some cells.
-fn holds_shorter_or_leaves(patterns: &[Gridded], cells: CellSet, g: &Gridded) -> bool
+/// Whether g holds another pattern of an ascending list, of which it holds none of the first ones.
+fn holds_behind(patterns: &[Gridded], first: usize, g: &Gridded) -> bool
     requires gridded { AreGridded patterns.now }
     requires ascending { IsStrictlySortedBy gridded_cmp patterns.now }
+    requires within { first ≤ length patterns.now }
+    requires unheld { list_any (holds g.now) (take first patterns.now) ≡ false }
+    ensures { result ≡ holds_another patterns.now g.now }
+{
+    holds_shorter(&patterns[first..], g)
+}
+
+/// Whether g holds another pattern of an ascending list. It is known to if it leaves some cells, and else to hold
+/// none of the first ones.
+fn holds_kept(patterns: &[Gridded], first: usize, cells: CellSet, g: &Gridded) -> bool
+    requires gridded { AreGridded patterns.now }
+    requires ascending { IsStrictlySortedBy gridded_cmp patterns.now }
+    requires within { first ≤ length patterns.now }
     requires leaving { leaves cells g.now ≡ true → holds_another patterns.now g.now ≡ true }
+    requires unheld { 1 < length g.now → leaves cells g.now ≡ false → list_any (holds g.now) (take first patterns.now) ≡ false }
     ensures { result ≡ holds_another patterns.now g.now }
 {
     if leaves(g, cells) {
         return true;
     }
-    holds_shorter(patterns, g)
+    if g.len() < 2 {
+        return holds_shorter(patterns, g);
+    }
+    holds_behind(patterns, first, g)
+}
+
+/// The number of single points at the front of a list, where so many are known.
+#[tactic(auto, using(crate::proofs::Inactive::one_more_single))]
+fn more_single(patterns: &[Gridded], known: usize) -> usize
+    requires within { known ≤ length patterns.now }
+    requires single { AreSingle (take known patterns.now) }
+    ensures within { result ≤ length patterns.now }
+    ensures single { AreSingle (take result patterns.now) }
+{
+    if known == patterns.len() {
+        return known;
+    }
+    if patterns[known].len() != 1 {
+        return known;
+    }
+    known + 1
 }
 
 /// The patterns of an ascending list that hold no other of it, in their order. A pattern that holds another holds
 /// one that stays, which stands before it, so it is tested against those that stay alone, and not at all where it
-/// leaves the active cells.
+/// leaves the active cells; where it doesn't, it holds no single point.
 fn least(alloc: Global, patterns: &[Gridded], active: CellSet) -> Result<Vec<Gridded>, AllocError>
     requires gridded { AreGridded patterns.now }
     requires ascending { IsStrictlySortedBy gridded_cmp patterns.now }
     requires leaving { LeavingHolds active patterns.now }
+    requires single { HoldsNoSingle active patterns.now }
     ensures { IfOk result (λ kept. kept.items ≡ minimal patterns.now) }
 {
     let mut kept = Vec::new(alloc);
+    let mut points = 0;
     for g in patterns {
-        if !holds_shorter_or_leaves(&kept, active, g) {
+        points = more_single(&kept, points);
+        if !holds_kept(&kept, points, active, g) {
             kept.push(*g)?;
         }
     }
@@ -131,7 +168,7 @@ fn least(alloc: Global, patterns: &[Gridded], active: CellSet) -> Result<Vec<Gri
 }
 
 /// The tiling without the obstructions that hold another.
-#[tactic(auto, using(crate::proofs::InGrid::minimal_in_grid, crate::proofs::Inactive::leaving_holds))]
+#[tactic(auto, using(crate::proofs::InGrid::minimal_in_grid, crate::proofs::Inactive::leaving_holds, crate::proofs::Inactive::no_single_held))]
 pub(crate) fn without_redundant(alloc: Global, tiling: Tiling) -> Result<Tiling, AllocError>
     ensures { IfOk result (λ left. left ≡ tiling_of tiling.width tiling.height (minimal tiling.obstructions) tiling.requirements) }
 {
