@@ -5,14 +5,21 @@ ghost use Rattle.css_prune.specs.Faults.{EachBefore, IsMatched, IsRepeated, IsRu
 
 use crate::entry::Entry;
 use css_domain::{Domain, Shape};
+use thiserror::Error;
 
-/// Why entries are no specification: there is none; an entry's rule makes another class or has other
-/// children, or its class is an earlier one's, or no earlier entry names it; or a child that can be as long
-/// as its parent has no smaller rank. `child` is the place of the child's entry.
-#[derive(Clone, Copy, Debug, PartialEq, Eq)]
+/// Why entries are no specification. The first refusal that applies is answered.
+#[derive(Clone, Copy, Debug, PartialEq, Eq, Error)]
 pub enum SpecFault {
+    /// There is no entry.
+    #[error("there is no entry")]
     Empty,
+    /// The first entry whose rule makes another class or has other children, whose class is an earlier
+    /// one's, or that no earlier entry names, unless it is the first.
+    #[error("entry {entry} has a wrong rule, child or class, or is named by no earlier one")]
     Rule { entry: u32 },
+    /// The first entry with a child that can be as long as its parent and has no smaller rank, and the entry
+    /// of its first such child.
+    #[error("entry {child} is a child of entry {entry} without a smaller rank")]
     Rank { entry: u32, child: u32 },
 }
 

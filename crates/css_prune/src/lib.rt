@@ -11,6 +11,8 @@ mod pruned;
 mod round;
 mod spec;
 #[cfg(test)]
+mod spec_tests;
+#[cfg(test)]
 mod tests;
 
 pub use entry::Entry;

@@ -1,15 +1,65 @@
-ghost use Rattle.std.specs.Prelude.{◌≡◌, ◌<◌, IsTrue, OnOk};
+ghost use Rattle.std.specs.Prelude.{◌≡◌, ◌<◌, IsTrue, IfOk, OnOk};
 ghost use Rattle.css_domain.specs.Records.{AreWithin};
 ghost use Rattle.css_prune.specs.Marks.{AreBelow};
 
-use crate::entry::Entry;
-use crate::faults::SpecFault;
 use crate::pruned::{Pruned, prune};
-use crate::spec::Spec;
-use css_domain::{Domain, Record, Shape};
+use css_domain::{Record, Shape};
 use sequences::Sequence;
 use std::alloc::{AllocError, Global};
 use std::test::Fail;
+
+/// Records with what stands among them, worked out apart from this program. A row has the number of
+/// classes; the records, each a parent, a shape and the children, with + where they are positive; for each
+/// class its rank, which is 0 exactly where it isn't kept; and its pick.
+const ROWS: [&str; 47] = [
+    "0 |  |  | ",
+    "1 |  | 0 | 0",
+    "1 | 0 atom0 | 1 | 0",
+    "1 | 0 union 0 | 0 | 0",
+    "1 | 0 product 0 | 0 | 0",
+    "1 | 0 product 0+ | 0 | 0",
+    "1 | 0 nothing | 1 | 0",
+    "1 | 0 atom1; 0 atom0 | 1 | 0",
+    "3 | 0 union 1 2+; 1 atom0; 2 atom1 | 2 1 1 | 0 1 2",
+    "3 | 0 union 1 2+; 1 atom0 | 0 1 0 | 0 1 0",
+    "4 | 0 union 1 2+; 1 atom0; 2 product 0 3+; 3 atom1 | 3 1 2 1 | 0 1 2 3",
+    "4 | 0 union 1 2+; 1 atom0; 2 product 0 3; 3 atom1 | 0 1 0 1 | 0 1 0 3",
+    "4 | 0 union 1 2+; 1 atom0; 2 product 0+ 3; 3 atom1 | 0 1 0 1 | 0 1 0 3",
+    "2 | 0 union 1; 1 union 0; 0 atom0 | 1 2 | 2 1",
+    "3 | 1 union 0; 0 union 1; 1 union 2; 2 nothing | 3 2 1 | 1 2 3",
+    "2 | 0 product 1+ 1+; 1 product 0+ 0+ | 1 1 | 0 1",
+    "3 | 0 product 1+ 1; 1 product 0+ 2+; 2 atom1 | 2 1 1 | 0 1 2",
+    "1 | 0 union | 1 | 0",
+    "1 | 0 product | 1 | 0",
+    "3 | 2 atom1; 1 union 2+; 0 union 1+; 0 union 2+; 1 atom0 | 2 1 1 | 2 4 0",
+    "3 | 2 atom1; 2 atom0; 0 atom0 | 1 0 1 | 2 0 0",
+    "3 | 2 atom1 | 0 0 1 | 0 0 0",
+    "2 | 0 union 0+ | 0 0 | 0 0",
+    "6 | 4 atom1 | 0 0 0 0 1 0 | 0 0 0 0 0 0",
+    "3 | 1 union 2 2; 2 atom0; 0 union 0+ 0+ | 0 2 1 | 0 0 1",
+    "3 | 2 union 2+; 1 product 2+ 2+; 0 product 2+ | 0 0 0 | 0 0 0",
+    "2 | 0 nothing; 0 nothing; 0 product 0+ | 1 0 | 0 0",
+    "6 | 2 product 5+; 2 nothing | 0 0 1 0 0 0 | 0 0 1 0 0 0",
+    "6 | 1 nothing | 0 1 0 0 0 0 | 0 0 0 0 0 0",
+    "2 | 0 atom1 | 1 0 | 0 0",
+    "2 | 1 union 0 0; 1 product 1 | 0 0 | 0 0",
+    "2 | 0 atom1; 0 product 1; 1 product 0+ | 1 2 | 0 2",
+    "4 | 0 union 2+ 2+ 0+ | 0 0 0 0 | 0 0 0 0",
+    "3 | 1 atom0 | 0 1 0 | 0 0 0",
+    "3 | 1 union 2+ 1+; 2 atom1 | 0 0 1 | 0 0 1",
+    "4 | 3 product 3+ 3+ 2+; 3 union 3+; 1 union 3+; 1 nothing; 0 nothing | 1 1 0 0 | 4 3 0 0",
+    "4 | 2 product 0 2+ 0 | 0 0 0 0 | 0 0 0 0",
+    "5 | 2 union 0; 1 product 1+; 3 union 4+ 1+ 1+; 2 product 1+ 2+ 1+; 4 nothing | 0 0 0 0 1 | 0 0 0 0 4",
+    "2 | 1 atom1 | 0 1 | 0 0",
+    "2 | 0 union 0 0 | 0 0 | 0 0",
+    "5 | 3 nothing | 0 0 0 1 0 | 0 0 0 0 0",
+    "2 | 0 nothing; 0 product 1; 1 product 0 0 1; 1 nothing | 1 1 | 0 3",
+    "2 | 0 product 0 1+ 0; 1 product 1+; 0 atom0 | 1 0 | 2 0",
+    "2 | 0 product 0+ 1+; 1 nothing; 0 product 1+ 1+ 0+; 0 product 1+ 1+ | 1 1 | 0 1",
+    "2 | 1 nothing; 0 union 0+ | 0 1 | 0 0",
+    "5 | 0 product 4+ | 0 0 0 0 0 | 0 0 0 0 0",
+    "4 | 3 atom0 | 0 0 0 1 | 0 0 0 0",
+];
 
 fn are_below(children: &[(u32, bool)], classes: u32) -> bool
     ensures { IsTrue result → AreBelow classes children.now }
@@ -49,178 +99,104 @@ fn add(
     Ok(())
 }
 
-fn is_answer(pruned: &Pruned, keep: &[bool], rank: &[u32], pick: &[u32]) -> bool {
-    pruned.keep.as_slice() == keep
-        && pruned.rank.as_slice() == rank
-        && pruned.pick.as_slice() == pick
+pub fn number_of(word: &str) -> Result<u32, AllocError> {
+    word.parse::<u32>().map_err(|_| AllocError)
 }
 
-#[test]
-fn the_worked_classes_stand(rt: HostRuntime) -> Result<(), Fail> {
-    let alloc = rt.alloc();
-    let mut records = Vec::new(alloc);
+fn numbers_of(alloc: Global, text: &str) -> Result<Vec<u32>, AllocError> {
+    let mut numbers = Vec::new(alloc);
+    for word in text.split_whitespace() {
+        numbers.push(number_of(word)?)?;
+    }
+    Ok(numbers)
+}
+
+pub fn shape_of(word: &str) -> Result<Shape, AllocError> {
+    match word {
+        "union" => Ok(Shape::Union),
+        "product" => Ok(Shape::Product),
+        "atom0" => Ok(Shape::Atom(0)),
+        "atom1" => Ok(Shape::Atom(1)),
+        "nothing" => Ok(Shape::Nothing),
+        _ => Err(AllocError),
+    }
+}
+
+fn child_of(word: &str) -> Result<(u32, bool), AllocError> {
+    match word.strip_suffix('+') {
+        Some(number) => Ok((number_of(number)?, true)),
+        None => Ok((number_of(word)?, false)),
+    }
+}
+
+/// Adds the record of a text, where it has one.
+fn add_text(
+    alloc: Global,
+    records: &mut Vec<Record>,
+    classes: u32,
+    text: &str,
+) -> Result<(), AllocError>
+    requires { AreWithin classes records.old.items }
+    ensures { OnOk result (AreWithin classes records.new.items) }
+{
+    let mut words = text.split_whitespace();
+    let Some(parent) = words.next() else {
+        return Ok(());
+    };
+    let shape = shape_of(words.next().ok_or(AllocError)?)?;
+    let mut children = Vec::new(alloc);
+    for word in words {
+        children.push(child_of(word)?)?;
+    }
     add(
         alloc,
-        &mut records,
-        3,
-        0,
-        Shape::Union,
-        &[(1, false), (2, true)],
-    )?;
-    add(alloc, &mut records, 3, 1, Shape::Atom(0), &[])?;
-    add(alloc, &mut records, 3, 2, Shape::Atom(1), &[])?;
-    let pruned = prune(alloc, records.as_slice(), 3)?;
-    assert_eq!(rt;
-        is_answer(&pruned, &[true, true, true], &[2, 1, 1], &[0, 1, 2]),
-        true
-    );
-    Ok(())
+        records,
+        classes,
+        number_of(parent)?,
+        shape,
+        children.as_slice(),
+    )
 }
 
-#[test]
-fn a_class_that_rests_on_itself_falls(rt: HostRuntime) -> Result<(), Fail> {
-    let alloc = rt.alloc();
+fn records_of(alloc: Global, classes: u32, text: &str) -> Result<Vec<Record>, AllocError>
+    ensures { IfOk result (λ records. AreWithin classes records.items) }
+{
     let mut records = Vec::new(alloc);
-    add(alloc, &mut records, 1, 0, Shape::Union, &[(0, false)])?;
-    let pruned = prune(alloc, records.as_slice(), 1)?;
-    assert_eq!(rt; is_answer(&pruned, &[false], &[0], &[0]), true);
-    Ok(())
+    for piece in text.split(';') {
+        add_text(alloc, &mut records, classes, piece)?;
+    }
+    Ok(records)
+}
+
+/// Whether the ranks and picks are these, and what is kept is what has a rank.
+fn has_marks(pruned: &Pruned, ranks: &[u32], picks: &[u32]) -> bool {
+    let kept = pruned.keep.as_slice();
+    if kept.len() != ranks.len() {
+        return false;
+    }
+    for class in 0..kept.len() {
+        if kept[class] != (ranks[class] != 0) {
+            return false;
+        }
+    }
+    pruned.rank.as_slice() == ranks && pruned.pick.as_slice() == picks
+}
+
+/// Whether a row's records are pruned as it says.
+fn is_met(alloc: Global, row: &str) -> Result<bool, AllocError> {
+    let mut parts = row.split('|');
+    let classes = number_of(parts.next().ok_or(AllocError)?.trim())?;
+    let records = records_of(alloc, classes, parts.next().ok_or(AllocError)?)?;
+    let ranks = numbers_of(alloc, parts.next().ok_or(AllocError)?)?;
+    let picks = numbers_of(alloc, parts.next().ok_or(AllocError)?)?;
+    let pruned = prune(alloc, records.as_slice(), classes)?;
+    Ok(has_marks(&pruned, ranks.as_slice(), picks.as_slice()))
 }
 
 #[test]
-fn the_first_record_is_picked(rt: HostRuntime) -> Result<(), Fail> {
-    let alloc = rt.alloc();
-    let mut records = Vec::new(alloc);
-    add(alloc, &mut records, 3, 2, Shape::Atom(1), &[])?;
-    add(alloc, &mut records, 3, 1, Shape::Union, &[(2, true)])?;
-    add(alloc, &mut records, 3, 0, Shape::Union, &[(1, true)])?;
-    add(alloc, &mut records, 3, 0, Shape::Union, &[(2, true)])?;
-    add(alloc, &mut records, 3, 1, Shape::Atom(0), &[])?;
-    let pruned = prune(alloc, records.as_slice(), 3)?;
-    assert_eq!(rt;
-        is_answer(&pruned, &[true, true, true], &[2, 1, 1], &[2, 4, 0]),
-        true
-    );
-    Ok(())
-}
-
-#[test]
-fn a_products_child_is_shorter_beside_a_positive_one(rt: HostRuntime) -> Result<(), Fail> {
-    let alloc = rt.alloc();
-    let mut records = Vec::new(alloc);
-    add(
-        alloc,
-        &mut records,
-        4,
-        0,
-        Shape::Union,
-        &[(1, false), (2, true)],
-    )?;
-    add(alloc, &mut records, 4, 1, Shape::Atom(0), &[])?;
-    add(
-        alloc,
-        &mut records,
-        4,
-        2,
-        Shape::Product,
-        &[(0, false), (3, true)],
-    )?;
-    add(alloc, &mut records, 4, 3, Shape::Atom(1), &[])?;
-    let pruned = prune(alloc, records.as_slice(), 4)?;
-    assert_eq!(rt;
-        is_answer(
-            &pruned,
-            &[true, true, true, true],
-            &[3, 1, 2, 1],
-            &[0, 1, 2, 3]
-        ),
-        true
-    );
-    Ok(())
-}
-
-/// Numbers without members; the rule of a number makes it from itself.
-struct Numbers;
-
-impl Domain for Numbers {
-    ghost use Rattle.std.specs.Prelude.{false, [], ◌∷◌, nat_eq, refl};
-    ghost use Rattle.std.proofs.lemmas.Bool.{eqb-true};
-    ghost use Rattle.css_domain.specs.Meanings.{Meaning};
-    ghost use Rattle.css_domain.specs.declared.shape.Shape.TheVariants.{Nothing};
-
-    type Class = u32;
-
-    type Rule = u32;
-
-    ghost meaning = { record { same = nat_eq; positive = λ c. false; count = λ c n. 0; parent = λ r. r; children = λ r. r ∷ []; shape = λ r. Nothing; holds = λ r. Unit {0}; complete = λ rulebook c rules. Unit {0} } };
-
-    fn parent(rule: &u32) -> &u32 {
-        rule
+fn rows_of_records(rt: HostRuntime) -> Result<(), Fail> {
+    for row in ROWS {
+        assert!(rt; is_met(rt.alloc(), row)?, "at {row}");
     }
-
-    fn arity(_rule: &u32) -> u32 {
-        1
-    }
-
-    fn child(rule: &u32, _slot: u32) -> &u32 {
-        rule
-    }
-
-    fn shape(_rule: &u32) -> Shape {
-        Shape::Nothing
-    }
-
-    fn positive(_class: &u32) -> bool {
-        false
-    }
-
-    fn copy(_alloc: Global, class: &u32) -> Result<u32, AllocError> {
-        Ok(*class)
-    }
-
-    fn copy_rule(_alloc: Global, rule: &u32) -> Result<u32, AllocError> {
-        Ok(*rule)
-    }
-
-    ghost exact = { eqb-true };
-
-    ghost same = { λ a b. refl };
-
-    ghost combined = { λ r h n. refl };
-
-    ghost none_of_length_0 = { λ c h. refl };
-}
-
-/// The entry of a class by the rule of a number, whose child is the first entry.
-fn entry(alloc: Global, class: u32, rule: u32) -> Result<Entry<Numbers>, AllocError> {
-    let children = Vec::from_slice(alloc, &[0])?;
-    Ok(Entry {
-        class,
-        rule,
-        children: Sequence::of(children),
-        rank: 1,
-    })
-}
-
-fn fault_of(entries: Vec<Entry<Numbers>>) -> Option<SpecFault> {
-    if entries.len() >= 4 {
-        return None;
-    }
-    match Spec::of(entries) {
-        Ok(_) => None,
-        Err(fault) => Some(fault),
-    }
-}
-
-#[test]
-fn faults_of_entries(rt: HostRuntime) -> Result<(), Fail> {
-    let alloc = rt.alloc();
-    assert_eq!(rt; fault_of(Vec::new(alloc)), Some(SpecFault::Empty));
-    let one = vec![in alloc; entry(alloc, 7, 7)?]?;
-    assert_eq!(rt; fault_of(one), None);
-    let other = vec![in alloc; entry(alloc, 7, 8)?]?;
-    assert_eq!(rt; fault_of(other), Some(SpecFault::Rule { entry: 0 }));
-    let twice = vec![in alloc; entry(alloc, 7, 7)?, entry(alloc, 7, 7)?]?;
-    assert_eq!(rt; fault_of(twice), Some(SpecFault::Rule { entry: 1 }));
     Ok(())
 }

@@ -11,10 +11,9 @@ use Rattle.css_crew.proofs.tests.filing_of.Goals as goal
 pub loop-pair-preserved : goal.loop-pair-preserved
 loop-pair-preserved c =
     let e = c.in_ok-push.ensures.items in
-    let k = ap (λ (xs : List Pair). length xs) e ∙ length-append c.loop-pair.rules.items _ in
-    (
-        λ r i. ⊎_elim {C = r.parent ≡ c.args.parent} (λ old. c.loop-pair.invariant.0 r old) (λ new. ap (λ (x : Pair). x.parent) (only_in new)) (IsIn-append_cases c.loop-pair.rules.items _ (subst (λ (xs : List Pair). IsIn r xs) e i)),
-        omega (arith, k, c.loop-pair.invariant.1),
+    let k = ap (λ (xs : List Pair). length xs) e ∙ length-append c.loop-pair.rules.items _ in (
+      λ r i. ⊎_elim {C = r.parent ≡ c.args.parent} (λ old. c.loop-pair.invariant.0 r old) (λ new. ap (λ (x : Pair). x.parent) (only_in new)) (IsIn-append_cases c.loop-pair.rules.items _ (subst (λ (xs : List Pair). IsIn r xs) e i)),
+      omega (arith, k, c.loop-pair.invariant.1),
     )
 
 -- the words of rules with two children
@@ -24,11 +23,11 @@ four_each (r ∷ rules) = let e = sum_by-cons (λ (p : Pair). 4) r rules in omeg
 
 pub returns : goal.returns
 returns c = record {
-    filing = record {
-        hold = λ r i. tt;
-        own = λ r i. c.loop-pair.invariant.0 r (subst (λ (xs : List Pair). IsIn r xs) c.of.ensures i);
-        complete = λ some. tt;
-        small = let w = four_each c.of.result in omega (arith, w, ap length c.of.ensures, c.loop-pair.invariant.1, c.requires);
-    };
-    whole = tt;
+  filing = record {
+    hold = λ r i. tt;
+    own = λ r i. c.loop-pair.invariant.0 r (subst (λ (xs : List Pair). IsIn r xs) c.of.ensures i);
+    complete = λ some. tt;
+    small = let w = four_each c.of.result in omega (arith, w, ap length c.of.ensures, c.loop-pair.invariant.1, c.requires);
+  };
+  whole = tt;
 }
