@@ -7,7 +7,7 @@ use Rattle.std.proofs.lemmas.List.{length-take-le}
 use Rattle.tiling_core.specs.Tiles.{Tiles}
 use Rattle.css_domain.specs.Entries.{Entry}
 use Rattle.rule_kinds.specs.Rules.{TilingRule}
-use Rattle.spec_text.specs.Lines.{Text, numbered}
+use Rattle.spec_lines.specs.Lines.{Text, numbered}
 use Rattle.spec_text.specs.Entries.{entry_text, entries_text}
 
 numbered_more : {X : Type 0} (text : ℕ → X → Text) (number : ℕ) (items : List X) (x : X) → numbered text number (items ++ x ∷ []) ≡ numbered text number items ++ text (number + length items) x

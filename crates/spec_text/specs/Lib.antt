@@ -1,9 +1,4 @@
-pub mod Lines
-pub mod Patterns
 pub mod Classes
-pub mod Traces
-pub mod Kinds
 pub mod Entries
-pub mod Terms
 pub mod Texts
 pub mod EntryLaws

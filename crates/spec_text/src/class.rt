@@ -1,5 +1,5 @@
 ghost use Rattle.std.specs.Prelude.{◌≡◌, ◌++◌, OnOk, OnErr, map};
-ghost use Rattle.spec_text.specs.Lines.{line, or_dash};
+ghost use Rattle.spec_lines.specs.Lines.{line, or_dash};
 ghost use Rattle.spec_text.specs.Classes.{grid_line, class_text};
 
 use crate::spell::{Spell, put_bytes, put_each_after, put_number, put_whole};

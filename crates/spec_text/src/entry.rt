@@ -1,5 +1,6 @@
 ghost use Rattle.std.specs.Prelude.{◌≡◌, ◌<◌, ◌++◌, [], length, slice_index_or, OnOk, OnErr};
-ghost use Rattle.spec_text.specs.Entries.{child_lines, rule_text, entry_line, entries_text};
+ghost use Rattle.spec_lines.specs.Numbers.{entry_line};
+ghost use Rattle.spec_text.specs.Entries.{child_lines, rule_text, entries_text};
 
 use crate::kinds::put_rule_line;
 use crate::spell::{Spell, put_bytes, put_number, put_whole};

@@ -1,6 +1,6 @@
 ghost use Rattle.std.specs.Prelude.{◌≡◌, ◌++◌, ◌∷◌, [], OnOk, decimal};
-ghost use Rattle.spec_text.specs.Lines.{each_after};
-ghost use Rattle.spec_text.specs.Kinds.{direction_text, set_text, pointed_text, kind_word, kind_items, rule_line};
+ghost use Rattle.spec_lines.specs.Lines.{each_after};
+ghost use Rattle.spec_lines.specs.Kinds.{direction_text, set_text, pointed_text, kind_word, kind_items, rule_line};
 
 use crate::spell::{Spell, put_bytes, put_each_after, put_number};
 use gridded::CellSet;

@@ -1,5 +1,5 @@
 ghost use Rattle.std.specs.Prelude.{decimal};
-ghost use Rattle.spec_text.specs.Patterns.{word_text, cell_text, pattern_text, list_text};
+ghost use Rattle.spec_lines.specs.Patterns.{word_text, cell_text, pattern_text, list_text};
 
 use crate::spell::{Spell, put_all, put_bytes, put_number, put_separated};
 use gridded::{Cell, Gridded};

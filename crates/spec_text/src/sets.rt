@@ -1,7 +1,7 @@
 ghost use Rattle.std.specs.Prelude.{◌≡◌, ◌<◌, ◌++◌, ◌∷◌, [], OnOk, IfOk, filter, map};
 ghost use Rattle.std.specs.List.{range_with_len};
 ghost use Rattle.gridded.specs.CellSets.{is_among};
-ghost use Rattle.spec_text.specs.Kinds.{set_text};
+ghost use Rattle.spec_lines.specs.Kinds.{set_text};
 
 use crate::spell::{Spell, put_separated};
 use gridded::{Cell, CellSet};

@@ -1,5 +1,5 @@
 ghost use Rattle.std.specs.Prelude.{◌≡◌, ◌++◌, ◌∷◌, [], List, ℕ, OnOk, OnErr, flat_map, map, decimal};
-ghost use Rattle.spec_text.specs.Lines.{each_after, separated};
+ghost use Rattle.spec_lines.specs.Lines.{each_after, separated};
 
 use itoa::Buffer;
 use std::alloc::AllocError;

@@ -1,6 +1,6 @@
 ghost use Rattle.std.specs.Prelude.{◌≡◌, ◌++◌, OnOk, OnErr, decimal, map};
-ghost use Rattle.spec_text.specs.Lines.{each_after};
-ghost use Rattle.spec_text.specs.Traces.{step_text, trace_items, basis_line, root_line, head_text, child_line};
+ghost use Rattle.spec_lines.specs.Lines.{each_after};
+ghost use Rattle.spec_lines.specs.Traces.{step_text, trace_items, basis_line, root_line, head_text, child_line};
 
 use crate::class::put_line;
 use crate::spell::{Spell, put_bytes, put_each_after, put_number, put_separated, put_whole};

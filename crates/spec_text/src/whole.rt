@@ -1,6 +1,7 @@
 ghost use Rattle.std.specs.Prelude.{◌≡◌, ◌++◌, OnOk, OnErr, IfOk};
-ghost use Rattle.spec_text.specs.Terms.{term_text, terms_line};
-ghost use Rattle.spec_text.specs.Texts.{number_line, start_text, end_text, spec_text};
+ghost use Rattle.spec_lines.specs.Terms.{term_text, terms_line};
+ghost use Rattle.spec_lines.specs.Numbers.{number_line};
+ghost use Rattle.spec_text.specs.Texts.{start_text, end_text, spec_text};
 
 use crate::entry::put_entries;
 use crate::spell::{Spell, put_bytes, put_each_after, put_number, put_whole};

@@ -19,7 +19,7 @@ use Rattle.rule_kinds.specs.Rules.{TilingRule}
 use Rattle.tile_rules.specs.Complete.{rulebook_of}
 use Rattle.tile_rules.specs.Meaning.{tile_meaning}
 use Rattle.pack_law.specs.Tried.{AreTried, IsFiledFor, AloneIsFiled, ClassesAreNormal, NoSpec}
-use Rattle.spec_text.specs.Lines.{Text}
+use Rattle.spec_lines.specs.Lines.{Text}
 use Rattle.spec_text.specs.Texts.{spec_text}
 use Rattle.tilescope.specs.declared.words.Request.{Request}
 use Rattle.tilescope.specs.Searches.{TileBooks, TileEntries, IsReducedRoot, IsExplored, IsSpecOf, IsWithout, IsAnswerText, none_line}

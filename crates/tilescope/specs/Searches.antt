@@ -17,7 +17,7 @@ use Rattle.tile_rules.specs.Complete.{rulebook_of}
 use Rattle.rule_kinds.specs.Rules.{TilingRule}
 use Rattle.tile_rules.specs.Meaning.{tile_meaning}
 use Rattle.pack_law.specs.Tried.{AreTried}
-use Rattle.spec_text.specs.Lines.{Text, line}
+use Rattle.spec_lines.specs.Lines.{Text, line}
 use Rattle.spec_text.specs.Texts.{spec_text}
 
 abbrev pub TileBooks : Type 0

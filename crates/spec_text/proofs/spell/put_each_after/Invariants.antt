@@ -1,6 +1,6 @@
 use Rattle.std.proofs.Common.{◌≡◌, ◌++◌, take}
 use Rattle.std.specs.Prelude.{map}
-use Rattle.spec_text.specs.Lines.{each_after}
+use Rattle.spec_lines.specs.Lines.{each_after}
 use Rattle.spec_text.proofs.spell.put_each_after.Given as goal
 
 abbrev pub invariant-loop-item : goal.invariant-loop-item

@@ -6,8 +6,8 @@ use Rattle.rule_kinds.specs.declared.kind.Direction.{Direction}
 use Rattle.rule_kinds.specs.declared.kind.Direction.TheVariants.{North, South, East, West}
 use Rattle.rule_kinds.specs.declared.kind.Kind.{Kind}
 use Rattle.rule_kinds.specs.declared.kind.Kind.TheVariants as kind
-use Rattle.spec_text.specs.Lines.{Text, line}
-use Rattle.spec_text.specs.Patterns.{cells_text, pattern_text}
+use Rattle.spec_lines.specs.Lines.{Text, line}
+use Rattle.spec_lines.specs.Patterns.{cells_text, pattern_text}
 
 abbrev pub direction_text : Direction → Text
 direction_text North = codes "N"

@@ -2,8 +2,8 @@
 use Rattle.std.specs.Prelude.{ℕ, List, [], ◌∷◌, ◌++◌, map, codes, decimal}
 use Rattle.steps.specs.declared.step.Step.{Step}
 use Rattle.steps.specs.declared.step.Step.TheVariants.{Min, Clean, Lists, Column, Row, Void}
-use Rattle.spec_text.specs.Lines.{Text, line, or_dash, separated}
-use Rattle.spec_text.specs.Patterns.{cell_text, word_text}
+use Rattle.spec_lines.specs.Lines.{Text, line, or_dash, separated}
+use Rattle.spec_lines.specs.Patterns.{cell_text, word_text}
 
 abbrev pub step_text : Step → Text
 step_text Void = codes "V"

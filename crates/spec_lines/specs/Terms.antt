@@ -2,7 +2,7 @@
 use Rattle.std.specs.Prelude.{List, map, codes, decimal}
 use Rattle.css_terms.specs.declared.term.Term.{Term}
 use Rattle.css_terms.specs.declared.term.Term.TheVariants.{Exact, Big}
-use Rattle.spec_text.specs.Lines.{Text, line}
+use Rattle.spec_lines.specs.Lines.{Text, line}
 
 abbrev pub term_text : Term → Text
 term_text (Exact n) = decimal n

@@ -3,7 +3,7 @@ use Rattle.std.specs.Prelude.{ℕ, List, [], ◌∷◌, ◌++◌, map, flat_map,
 use Rattle.gridded.specs.declared.cell.Cell.{Cell}
 use Rattle.gridded.specs.Grids.{Point}
 use Rattle.gridded.specs.Orders.{letters_of, cells_of}
-use Rattle.spec_text.specs.Lines.{Text, separated}
+use Rattle.spec_lines.specs.Lines.{Text, separated}
 
 abbrev pub word_text : List ℕ → Text
 word_text letters = flat_map decimal letters

@@ -1,0 +1,16 @@
+pub mod Lines
+pub mod Patterns
+pub mod Traces
+pub mod Kinds
+pub mod Terms
+pub mod Numbers
+pub mod Forms
+pub mod Follows
+pub mod Ranges
+pub mod Items
+pub mod Readings
+pub mod Machine
+pub mod Faults
+pub mod Laws
+pub mod Orders
+pub mod Files
