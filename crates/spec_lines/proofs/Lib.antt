@@ -13,6 +13,7 @@ pub mod SpelledLines
 pub mod Bodies
 pub mod Faulty
 pub mod TextOrders
+pub mod Ascents
 mod EdgeRows
 mod WholeRows
 pub mod FileLines

@@ -1,8 +1,9 @@
 -- Items in order, told by their texts: by length, then byte by byte. A list of patterns is told by its members' texts.
-use Rattle.std.specs.Prelude.{◌≡◌, ℕ, cond, List, [], length, map, codes, Some}
+use Rattle.std.specs.Prelude.{IsTrue, ◌≡◌, ◌↔◌, ℕ, cond, List, [], length, map, codes, Some}
 use Rattle.std.specs.declared.cmp.Ordering.{Ordering}
 use Rattle.std.specs.Ordering.{nat_cmp, on, then_cmp}
 use Rattle.std.specs.Cmp.Lexicographic.{slice_cmp}
+use Rattle.std.specs.List.Sorted.{IsStrictlySortedBy}
 use Rattle.perm_core.specs.Orders.{perm_cmp}
 use Rattle.gridded.specs.declared.cell.Cell.{Cell}
 use Rattle.gridded.specs.Grids.{Point}
@@ -30,3 +31,16 @@ PatternsAscendByText = (ts : List Text) (patterns : List (List Point)) → read_
 
 abbrev pub ListsAscendByMembers : Type 0
 ListsAscendByMembers = (ts : List Text) (lists : List (List (List Point))) → read_all list_at ts ≡ Some lists → ascending (slice_cmp gridded_cmp) lists ≡ ascending (slice_cmp text_cmp) (map members_of ts)
+
+-- ====== each item is smaller than the next exactly where it is smaller than all later ones ======
+abbrev pub WordsAreSorted : Type 0
+WordsAreSorted = (words : List (List ℕ)) → IsTrue (ascending perm_cmp words) ↔ IsStrictlySortedBy perm_cmp words
+
+abbrev pub CellsAreSorted : Type 0
+CellsAreSorted = (cells : List Cell) → IsTrue (ascending cell_cmp cells) ↔ IsStrictlySortedBy cell_cmp cells
+
+abbrev pub PatternsAreSorted : Type 0
+PatternsAreSorted = (patterns : List (List Point)) → IsTrue (ascending gridded_cmp patterns) ↔ IsStrictlySortedBy gridded_cmp patterns
+
+abbrev pub ListsAreSorted : Type 0
+ListsAreSorted = (lists : List (List (List Point))) → IsTrue (ascending (slice_cmp gridded_cmp) lists) ↔ IsStrictlySortedBy (slice_cmp gridded_cmp) lists

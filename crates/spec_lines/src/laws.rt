@@ -1,6 +1,6 @@
 ghost use Rattle.spec_lines.specs.Laws.{LinesAreRead, TextsHaveOneReading, SpelledTextsAreAnswered, GrammarFaultsAreAnswered, LimitFaultsAreAnswered};
 ghost use Rattle.spec_lines.specs.Files.{TextsHaveOneFile, SpelledTextsHaveFiles, WritableFilesAreSpelled};
-ghost use Rattle.spec_lines.specs.Orders.{WordsAscendByText, CellsAscendByText, PatternsAscendByText, ListsAscendByMembers};
+ghost use Rattle.spec_lines.specs.Orders.{WordsAscendByText, CellsAscendByText, PatternsAscendByText, ListsAscendByMembers, WordsAreSorted, CellsAreSorted, PatternsAreSorted, ListsAreSorted};
 
 /// What is read at a place is the value of the line that is spelled, where it is of the form and may stand there.
 /// It computes nothing.
@@ -24,6 +24,14 @@ pub fn items_ascend_by_text()
     ensures cells { CellsAscendByText }
     ensures patterns { PatternsAscendByText }
     ensures lists { ListsAscendByMembers }
+{}
+
+/// Items of which each is smaller than the next ascend strictly. It computes nothing.
+pub fn ascending_is_sorted()
+    ensures words { WordsAreSorted }
+    ensures cells { CellsAreSorted }
+    ensures patterns { PatternsAreSorted }
+    ensures lists { ListsAreSorted }
 {}
 
 /// The lines of a text of the form in range are those of exactly one file, and a file whose values have lines in

@@ -5,4 +5,6 @@
 
 mod laws;
 
-pub use laws::{items_ascend_by_text, line_is_read, texts_are_answered, texts_are_files};
+pub use laws::{
+    ascending_is_sorted, items_ascend_by_text, line_is_read, texts_are_answered, texts_are_files,
+};

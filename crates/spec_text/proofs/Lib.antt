@@ -1,4 +1,5 @@
 pub mod SetCells
 pub mod ChildLines
+pub mod FileTexts
 pub mod KindRows
 mod TextRows

@@ -2,3 +2,4 @@ pub mod Classes
 pub mod Entries
 pub mod Texts
 pub mod EntryLaws
+pub mod Files

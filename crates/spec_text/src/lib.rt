@@ -4,6 +4,7 @@
 mod class;
 mod entry;
 mod kinds;
+mod law;
 mod points;
 mod sets;
 mod spell;
@@ -14,6 +15,7 @@ mod whole;
 
 pub use class::put_class;
 pub use entry::put_rule;
+pub use law::specs_are_spelled;
 pub use spell::put_number;
 pub use traces::put_head;
 pub use whole::{put_terms, write_spec};

@@ -1,0 +1,8 @@
+ghost use Rattle.spec_text.specs.Files.{SpecTextsAreFileTexts, WritableSpecsAreSpelled};
+
+/// The text that `write_spec` gives is that of the specification's file, and spells it where its values have lines in
+/// range (docs/FORMATS.md, "The text of a specification"). It computes nothing.
+pub fn specs_are_spelled()
+    ensures text { SpecTextsAreFileTexts }
+    ensures spelled { WritableSpecsAreSpelled }
+{}
