@@ -13,13 +13,12 @@ use Rattle.spec_lines.specs.Numbers.{first_line, number_line, entry_line, sides_
 use Rattle.spec_lines.specs.Traces.{basis_line, root_line, child_line}
 use Rattle.spec_lines.specs.Kinds.{rule_line}
 use Rattle.spec_lines.specs.Terms.{terms_line}
-use Rattle.spec_lines.specs.Forms.{Line, line_text}
+use Rattle.spec_lines.specs.Forms.{line_text}
 use Rattle.spec_lines.specs.Forms.Line.{Terms, End}
-use Rattle.spec_lines.specs.Files.{FileEntry, File, child_lines_of, lines_of_entry, lines_of_entries, file_lines, file_text, IsFileText, IsWritable}
+use Rattle.spec_lines.specs.Files.{child_lines_of, lines_of_entry, lines_of_entries, file_text, IsFileText, IsWritable}
 use Rattle.spec_lines.proofs.FileLines.{writable_is_spelled}
-use Rattle.spec_text.specs.Classes.{class_text}
-use Rattle.spec_text.specs.Entries.{child_lines, rule_text, entry_text, entries_text}
-use Rattle.spec_text.specs.Texts.{start_text, end_text, spec_text}
+use Rattle.spec_text.specs.Entries.{child_lines, entry_text, entries_text}
+use Rattle.spec_text.specs.Texts.{spec_text}
 use Rattle.spec_text.specs.Files.{file_entry, file_of}
 
 children_text : (children : List ℕ) (traces : List (List Step)) → child_lines children traces ≡ flat_map line_text (child_lines_of children traces)

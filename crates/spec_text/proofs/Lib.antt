@@ -1,5 +1,11 @@
 pub mod SetCells
 pub mod ChildLines
 pub mod FileTexts
+pub mod KeptLines
+pub mod KeptKinds
+pub mod KeptRoots
+pub mod KeptTraces
+pub mod KeptEntries
+pub mod WrittenSpecs
 pub mod KindRows
 mod TextRows

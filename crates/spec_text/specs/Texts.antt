@@ -1,5 +1,5 @@
 -- The whole text of a specification.
-use Rattle.std.specs.Prelude.{ℕ, List, [], ◌∷◌, ◌++◌, length}
+use Rattle.std.specs.Prelude.{ℕ, List, ◌++◌, length}
 use Rattle.tiling_core.specs.Tiles.{Tiles}
 use Rattle.steps.specs.declared.step.Step.{Step}
 use Rattle.css_domain.specs.Entries.{Entry}

@@ -1,5 +1,4 @@
-use Rattle.std.proofs.Common.{rules, ◌≡◌, ◌<◌, take, length, ◌∙◌, refl}
-use Rattle.std.specs.Prelude.{slice_get, Some}
+use Rattle.std.proofs.Common.{rules, ◌<◌, take, length, refl}
 use Rattle.std.proofs.lemmas.Option.{slice_get_read}
 use Rattle.spec_text.specs.Entries.{entries_text}
 use Rattle.spec_text.specs.EntryLaws.{entries_taken}
