@@ -1,7 +1,6 @@
 -- Worked rows of terms.
 use Rattle.std.specs.Prelude.{◌≡◌, ◌^◌, ◌-◌, [], ◌∷◌, refl}
-use Rattle.patterns.specs.Occurs.{occurs}
-use Rattle.css_terms.specs.Terms.{capped, cut, terms_of}
+use Rattle.css_terms.specs.Terms.{capped, cut}
 use Rattle.css_terms.specs.declared.term.Term.TheVariants.{Exact, Big}
 
 below_cap : capped (2 ^ 128 - 1) ≡ Exact 340282366920938463463374607431768211455
@@ -12,8 +11,3 @@ at_cap = refl
 
 cut_after_big : cut (Exact 1 ∷ Big ∷ Big ∷ Exact 2 ∷ []) ≡ (Exact 1 ∷ Big ∷ [])
 cut_after_big = refl
-
--- the avoiders of 12 and 21
-short_terms : terms_of ((0 ∷ 1 ∷ []) ∷ (1 ∷ 0 ∷ []) ∷ []) 3 ≡ (Exact 1 ∷ Exact 1 ∷ Exact 0 ∷ Exact 0 ∷ [])
-unfolding occurs
-short_terms = refl

@@ -2,10 +2,11 @@
 use Rattle.std.specs.Prelude.{◌≡◌, ◌<◌, ◌≤◌, ℕ, Bool, true, IsTrue, List, map, length, slice_get, slice_index_or, Some, Contains, [], ◌∷◌, ◌+◌}
 use Rattle.std.specs.List.Sorted.{IsNonDecreasingBy}
 use Rattle.css_domain.specs.Shapes.{combine, is_same_length}
+use Rattle.css_domain.specs.declared.shape.Shape.TheVariants.{Product}
 use Rattle.css_terms.specs.declared.rows.Row.{Row}
 use Rattle.css_terms.specs.declared.term.Term.{Term}
 use Rattle.css_terms.specs.Terms.{terms_to}
-use Rattle.css_terms.specs.Series.{Shows, AreBelow, places}
+use Rattle.css_terms.specs.Series.{Shows, ShowsTails, AreBelow, places}
 
 -- which children are positive
 abbrev pub flags : List (ℕ × Bool) → List Bool
@@ -42,6 +43,16 @@ AreNear series n = (c : ℕ) → c < length series → (n ≤ length (slice_inde
 pub record AreAt (series : List (List Term)) (rows n : ℕ) : Type 0 where
   pub as_many : length series ≡ rows
   pub long : (c : ℕ) → c < rows → length (slice_index_or series c []) ≡ n
+
+-- the tails of a product have the terms below n
+pub record AreTailsOf (rows : List Row) (row : Row) (tails : List (List Term)) (n : ℕ) : Type 0 where
+  pub long : row.shape ≡ Product → length tails ≡ n
+  pub shown : (count : ℕ → ℕ → ℕ) → AreRowCounts rows count → row.shape ≡ Product → ShowsTails tails n (places row.children) count
+
+-- so do those of all rows
+pub record AreTails (rows : List Row) (tails : List (List (List Term))) (n : ℕ) : Type 0 where
+  pub as_many : length tails ≡ length rows
+  pub each : (c : ℕ) (row : Row) → slice_get rows c ≡ Some row → AreTailsOf rows row (slice_index_or tails c []) n
 
 -- each row of a smaller rank has its term at n
 abbrev pub AreLowerDone : List Row → List (List Term) → ℕ → ℕ → Type 0

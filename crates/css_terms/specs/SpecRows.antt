@@ -1,12 +1,9 @@
 -- The rows of a specification's entries.
-use Rattle.std.specs.Prelude.{◌≡◌, ℕ, List, map, zip, slice_get, Some}
-use Rattle.patterns.specs.Occurs.{avoiders}
+use Rattle.std.specs.Prelude.{List, map, zip}
 use Rattle.css_domain.specs.Meanings.{Meaning}
 use Rattle.css_domain.specs.Entries.{Entry, IsSpec, AllHold, class_counts}
 use Rattle.css_terms.specs.declared.rows.Row.{Row}
-use Rattle.css_terms.specs.declared.term.Term.TheVariants.{Exact}
 use Rattle.css_terms.specs.Rows.{AreGoodRows, AreRowCounts}
-use Rattle.css_terms.specs.Terms.{terms_of}
 
 module _ {C R : Type 0} (D : Meaning C R) where
   -- the shape of its rule, the places of the children with their positivity, and its rank
@@ -23,7 +20,3 @@ module _ {C R : Type 0} (D : Meaning C R) where
 
   abbrev pub SpecsHaveRows : Type 0
   SpecsHaveRows = (entries : List (Entry C R)) → IsSpec D entries → AllHold D entries → AreSpecRows entries
-
--- an exact term is the number of avoiders of its length
-abbrev pub ExactTermsAreAvoiders : Type 0
-ExactTermsAreAvoiders = (basis : List (List ℕ)) (last n x : ℕ) → slice_get (terms_of basis last) n ≡ Some (Exact x) → x ≡ avoiders basis n

@@ -1,7 +1,6 @@
 -- Terms, capped at 2 ^ 128.
 use Rattle.std.specs.Prelude.{ℕ, suc, ◌^◌, nat_lt, if◌then◌else◌, List, [], ◌∷◌, map, Option, Some, None}
 use Rattle.std.specs.List.{range_with_len}
-use Rattle.patterns.specs.Occurs.{avoiders}
 use Rattle.css_terms.specs.declared.term.Term.{Term}
 use Rattle.css_terms.specs.declared.term.Term.TheVariants.{Exact, Big}
 
@@ -22,7 +21,3 @@ cut (Big ∷ terms) = Big ∷ []
 -- the capped counts for the lengths from 0 to last, as far as the first big one
 abbrev pub terms_to : ℕ → (ℕ → ℕ) → List Term
 terms_to last count = cut (map (λ n. capped (count n)) (range_with_len 0 (suc last)))
-
--- the capped numbers of the permutations that avoid the basis
-abbrev pub terms_of : List (List ℕ) → ℕ → List Term
-terms_of basis last = terms_to last (avoiders basis)

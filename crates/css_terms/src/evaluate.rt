@@ -1,12 +1,14 @@
-ghost use Rattle.std.specs.Prelude.{◌≡◌, ◌+◌, ◌<◌, ◌≤◌, ◌^◌, [], length, slice_index_or, IfOk, OnOk};
-ghost use Rattle.css_terms.specs.Series.{items_of, is_big};
-ghost use Rattle.css_terms.specs.Rows.{AreGoodRows, AreNear, AreLowerDone, IsExtended, IsInOrderOfRank, AreAt, StillShow, AreTermsOf};
+ghost use Rattle.std.specs.Prelude.{◌≡◌, ◌+◌, ◌<◌, ◌≤◌, ◌^◌, ℕ, [], length, slice_index_or, IfOk, OnOk};
+ghost use Rattle.css_domain.specs.declared.shape.Shape.TheVariants.{Product};
+ghost use Rattle.css_terms.specs.Series.{Knows, ShowsTails, AreBelow, items_of, lists_of, places, is_big};
+ghost use Rattle.css_terms.specs.Rows.{AreRowCounts, AllShow, AreTails, AreGoodRows, AreNear, AreLowerDone, IsExtended, IsInOrderOfRank, AreAt, StillShow, AreTermsOf};
 
 use crate::order::in_order_of_rank;
 use crate::rows::Row;
 use crate::series::{series_at, term_at};
 use crate::term::Term;
-use crate::value::value_of;
+use crate::value::{next_tails, value_of};
+use css_domain::Shape;
 use std::alloc::{AllocError, Global};
 
 /// Adds the term of a row at n to its series, where it isn't there yet.
@@ -14,21 +16,23 @@ fn add_term(
     alloc: Global,
     rows: &[Row],
     series: &mut Vec<Vec<Term>>,
+    tails: &[Vec<Vec<Term>>],
     place: usize,
     n: usize,
 ) -> Result<(), AllocError>
     requires rows { AreGoodRows rows.now }
     requires within { place < length rows.now }
+    requires tails { AreTails rows.now (lists_of tails.now) n }
     requires as_many { length series.old.items ≡ length rows.now }
     requires near { AreNear (items_of series.old.items) n }
     requires lower { AreLowerDone rows.now (items_of series.old.items) place n }
-    requires small { n < 2 ^ 28 }
     ensures { OnOk result (IsExtended rows.now (items_of series.old.items) (items_of series.new.items) place n) }
 {
     if series[place].len() > n {
         return Ok(());
     }
-    let term = value_of(alloc, &rows[place], series.as_slice(), n)?;
+    let kept = tails[place].as_slice();
+    let term = value_of(alloc, &rows[place], series.as_slice(), kept, n)?;
     let at = &mut series[place];
     at.push(term)?;
     Ok(())
@@ -40,19 +44,69 @@ fn add_terms(
     rows: &[Row],
     order: &[(u32, u32)],
     series: &mut Vec<Vec<Term>>,
+    tails: &[Vec<Vec<Term>>],
     n: usize,
 ) -> Result<(), AllocError>
     requires rows { AreGoodRows rows.now }
+    requires tails { AreTails rows.now (lists_of tails.now) n }
     requires order { IsInOrderOfRank rows.now order.now }
     requires before { AreAt (items_of series.old.items) (length rows.now) n }
-    requires small { n < 2 ^ 28 }
     ensures after { OnOk result (AreAt (items_of series.new.items) (length rows.now) (n + 1)) }
     ensures shown { OnOk result (StillShow rows.now (items_of series.old.items) (items_of series.new.items)) }
 {
     for pair in order {
-        add_term(alloc, rows, series, pair.1 as usize, n)?;
+        add_term(alloc, rows, series, tails, pair.1 as usize, n)?;
     }
     Ok(())
+}
+
+/// Adds to the tails of a product those of the next length, at which all series have their terms.
+fn add_tail(
+    alloc: Global,
+    row: &Row,
+    series: &[Vec<Term>],
+    tails: &mut Vec<Vec<Term>>,
+) -> Result<(), AllocError>
+    requires below { AreBelow (length series.now) (places row.now.children) }
+    ensures one { OnOk result (row.now.shape ≡ Product → length tails.new.items ≡ length tails.old.items + 1) }
+    ensures shown { OnOk result ((known : ℕ → ℕ → ℕ) → Knows (items_of series.now) known → row.now.shape ≡ Product → ShowsTails (items_of tails.old.items) (length tails.old.items) (places row.now.children) known → ShowsTails (items_of tails.new.items) (length tails.old.items + 1) (places row.now.children) known) }
+{
+    if let Shape::Product = row.shape {
+        let lasts = next_tails(alloc, row.children.as_slice(), series, tails.as_slice())?;
+        tails.push(lasts)?;
+    }
+    Ok(())
+}
+
+/// Adds the tails of all products at n.
+fn add_tails(
+    alloc: Global,
+    rows: &[Row],
+    series: &[Vec<Term>],
+    tails: &mut Vec<Vec<Vec<Term>>>,
+    n: usize,
+) -> Result<(), AllocError>
+    requires rows { AreGoodRows rows.now }
+    requires series { AreAt (items_of series.now) (length rows.now) (n + 1) }
+    requires shown { (count : ℕ → ℕ → ℕ) → AreRowCounts rows.now count → AllShow (items_of series.now) count }
+    requires before { AreTails rows.now (lists_of tails.old.items) n }
+    ensures { OnOk result (AreTails rows.now (lists_of tails.new.items) (n + 1)) }
+{
+    for place in 0..rows.len() {
+        add_tail(alloc, &rows[place], series, &mut tails[place])?;
+    }
+    Ok(())
+}
+
+fn empty_tails(alloc: Global, rows: &[Row]) -> Result<Vec<Vec<Vec<Term>>>, AllocError>
+    ensures { IfOk result (λ tails. AreTails rows.now (lists_of tails.items) 0) }
+{
+    let mut tails = Vec::with_capacity(alloc, rows.len())?;
+    for row in rows {
+        let _ = row;
+        tails.push(Vec::new(alloc))?;
+    }
+    Ok(tails)
 }
 
 fn empty_series(alloc: Global, rows: usize) -> Result<Vec<Vec<Term>>, AllocError>
@@ -97,11 +151,15 @@ pub fn terms_of_rows(alloc: Global, rows: &[Row], last: u32) -> Result<Vec<Term>
 {
     let order = in_order_of_rank(alloc, rows)?;
     let mut series = empty_series(alloc, rows.len())?;
+    let mut tails = empty_tails(alloc, rows)?;
     for n in 0..last as usize + 1 {
-        add_terms(alloc, rows, order.as_slice(), &mut series, n)?;
-        if is_first_big(series.as_slice(), n) {
+        let kept = tails.as_slice();
+        add_terms(alloc, rows, order.as_slice(), &mut series, kept, n)?;
+        let terms = series.as_slice();
+        if is_first_big(terms, n) {
             return Ok(first_of(series));
         }
+        add_tails(alloc, rows, terms, &mut tails, n)?;
     }
     Ok(first_of(series))
 }

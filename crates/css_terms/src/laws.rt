@@ -1,4 +1,4 @@
-ghost use Rattle.css_terms.specs.SpecRows.{SpecsHaveRows, ExactTermsAreAvoiders};
+ghost use Rattle.css_terms.specs.SpecRows.{SpecsHaveRows};
 
 use css_domain::{Domain, counts_are_determined};
 
@@ -9,9 +9,3 @@ pub fn specs_have_rows<D: Domain>()
 {
     counts_are_determined::<D>();
 }
-
-/// An exact term of a basis is the number of permutations of its length that avoid the basis
-/// (docs/RULES.md, "Terms").
-pub fn exact_terms_are_avoiders()
-    ensures { ExactTermsAreAvoiders }
-{}

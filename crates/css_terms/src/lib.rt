@@ -14,7 +14,7 @@ mod tests;
 mod value;
 
 pub use evaluate::terms_of_rows;
-pub use laws::{exact_terms_are_avoiders, specs_have_rows};
+pub use laws::specs_have_rows;
 pub use rows::Row;
 pub use spec_terms::terms;
 pub use term::Term;

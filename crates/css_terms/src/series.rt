@@ -1,9 +1,8 @@
-ghost use Rattle.std.specs.Prelude.{◌≡◌, ◌+◌, ◌*◌, ◌-◌, ◌<◌, ℕ, [], length, slice_index_or, IfOk};
+ghost use Rattle.std.specs.Prelude.{◌≡◌, ◌+◌, ◌*◌, ◌-◌, ◌<◌, ◌≤◌, ℕ, [], length, slice_index_or};
 ghost use Rattle.css_terms.specs.Terms.{capped};
-ghost use Rattle.css_terms.specs.Series.{Shows, ShowsAll, items_of, convolution};
+ghost use Rattle.css_terms.specs.Series.{ShowsAll, ShowsAt, items_of, convolution};
 
 use crate::term::Term;
-use std::alloc::{AllocError, Global};
 
 /// The term at a length, which is 0 past the end.
 pub fn term_at(series: &[Term], n: usize) -> Term
@@ -25,26 +24,28 @@ pub fn series_at(series: &[Vec<Term>], place: usize) -> &[Term]
     at.as_slice()
 }
 
-/// The sum of the products of a term of the first series and a term of the second, of lengths that add up to n.
-pub fn convolution_at(first: &[Term], second: &[Term], n: usize) -> Term
-    requires { n < length second.now }
-    ensures { (f g : ℕ → ℕ) → ShowsAll first.now f → Shows second.now g → result ≡ capped (convolution f g n) }
+/// The term at a length of the product of the last children of a row, `back` of them: one of those that
+/// are kept, or the last one.
+fn tail_at(tails: &[Vec<Term>], back: usize, last: Term, n: usize) -> Term
+    requires { n ≤ length tails.now }
+    ensures { (g : ℕ → ℕ) → ShowsAt (items_of tails.now) (length tails.now) back g → last ≡ capped (g (length tails.now)) → result ≡ capped (g n) }
 {
-    let mut total = Term::Exact(0);
-    for k in 0..n + 1 {
-        total = total.plus(term_at(first, k).times(second[n - k]));
+    if n < tails.len() {
+        term_at(series_at(tails, n), back)
+    } else {
+        last
     }
-    total
 }
 
-/// The convolution at each length of the second series.
-pub fn convolved(alloc: Global, first: &[Term], second: &[Term]) -> Result<Vec<Term>, AllocError>
-    ensures as_long { IfOk result (λ row. length row.items ≡ length second.now) }
-    ensures terms { IfOk result (λ row. (f g : ℕ → ℕ) → ShowsAll first.now f → Shows second.now g → Shows row.items (convolution f g)) }
+/// The sum of the products of a term of the child and a term of the children behind it, `back` of them,
+/// whose lengths add up to the one after those that are kept.
+pub fn convolution_at(child: &[Term], tails: &[Vec<Term>], back: usize, last: Term) -> Term
+    ensures { (f g : ℕ → ℕ) → ShowsAll child.now f → ShowsAt (items_of tails.now) (length tails.now) back g → last ≡ capped (g (length tails.now)) → result ≡ capped (convolution f g (length tails.now)) }
 {
-    let mut row = Vec::with_capacity(alloc, second.len())?;
-    for n in 0..second.len() {
-        row.push(convolution_at(first, second, n))?;
+    let n = tails.len();
+    let mut total = Term::Exact(0);
+    for k in 0..n + 1 {
+        total = total.plus(term_at(child, k).times(tail_at(tails, back, last, n - k)));
     }
-    Ok(row)
+    total
 }

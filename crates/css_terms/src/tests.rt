@@ -65,3 +65,45 @@ fn terms_of_the_worked_rows(rt: HostRuntime) -> Result<(), Fail> {
     assert_eq!(rt; terms.as_slice(), expected.as_slice());
     Ok(())
 }
+
+/// The rows of a class whose members are the empty one, and a point with two members side by side.
+fn split_rows(alloc: Global) -> Result<Vec<Row>, AllocError>
+    ensures four { IfOk result (λ rows. length rows.items ≡ 4) }
+    ensures good { IfOk result (λ rows. AreGoodRows rows.items) }
+{
+    let either = vec![in alloc; (1u32, false), (2, true)]?;
+    let parts = vec![in alloc; (3u32, true), (0, false), (0, false)]?;
+    let mut rows = Vec::with_capacity(alloc, 4)?;
+    rows.push(Row {
+        shape: Shape::Union,
+        children: Sequence::of(either),
+        rank: 3,
+    })?;
+    rows.push(atom(alloc, 0))?;
+    rows.push(Row {
+        shape: Shape::Product,
+        children: Sequence::of(parts),
+        rank: 2,
+    })?;
+    rows.push(atom(alloc, 1))?;
+    Ok(rows)
+}
+
+/// The Catalan numbers.
+#[test]
+fn terms_of_a_product(rt: HostRuntime) -> Result<(), Fail> {
+    let alloc = rt.alloc();
+    let rows = split_rows(alloc)?;
+    let terms = terms_of_rows(alloc, rows.as_slice(), 6)?;
+    let expected = [
+        Term::Exact(1),
+        Term::Exact(1),
+        Term::Exact(2),
+        Term::Exact(5),
+        Term::Exact(14),
+        Term::Exact(42),
+        Term::Exact(132),
+    ];
+    assert_eq!(rt; terms.as_slice(), expected.as_slice());
+    Ok(())
+}

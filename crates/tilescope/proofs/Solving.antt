@@ -13,12 +13,13 @@ use Rattle.css_domain.specs.LedgerFacts.{IsLedger}
 use Rattle.css_domain.specs.Ledgers.{Counts, counts, is_all_done}
 use Rattle.css_domain.specs.Reasons.{Reason, RootStands, EndsFor, Alone}
 use Rattle.css_domain.specs.Reasons.Reason.{Found, Exhausted, Budget}
-use Rattle.css_terms.specs.Terms.{terms_to, terms_of}
+use Rattle.css_terms.specs.Terms.{terms_to}
+use Rattle.basis_terms.specs.BasisTerms.{terms_of}
 use Rattle.rule_kinds.specs.Choices.{Packs}
 use Rattle.rule_kinds.specs.Rules.{TilingRule}
 use Rattle.tile_rules.specs.Complete.{rulebook_of}
 use Rattle.tile_rules.specs.Meaning.{tile_meaning}
-use Rattle.pack_law.specs.Tried.{AreTried, IsFiledFor, AloneIsFiled, ClassesAreNormal, NoSpec}
+use Rattle.pack_law.specs.Tried.{AreTried, IsFiledFor, AloneIsFiled, ClassesAreNormal, NoSpec, FiledAreTried}
 use Rattle.spec_lines.specs.Lines.{Text}
 use Rattle.spec_text.specs.Texts.{spec_text}
 use Rattle.tilescope.specs.declared.words.Request.{Request}
@@ -49,7 +50,7 @@ none_text basis last l Found text ne e = absurd (ne refl)
 none_text basis last l Exhausted text ne e = e
 none_text basis last l Budget text ne e = e
 
-module _ (stand : FiledSpecsStand tile_meaning) (alone_is_filed : AloneIsFiled) (classes_normal : ClassesAreNormal) (no_spec : NoSpec) (request : Request) (letter : 0 < rulebook_of request.packs) (root : Tiles) (reduced : IsReducedRoot request.basis root) (l : TileBooks) (ledger : IsLedger tile_meaning l) (alone : Alone tile_meaning root request.budget (rulebook_of request.packs) l) where
+module _ (stand : FiledSpecsStand tile_meaning) (alone_is_filed : AloneIsFiled) (classes_normal : ClassesAreNormal) (no_spec : NoSpec) (are_tried : FiledAreTried) (request : Request) (letter : 0 < rulebook_of request.packs) (root : Tiles) (reduced : IsReducedRoot request.basis root) (l : TileBooks) (ledger : IsLedger tile_meaning l) (alone : Alone tile_meaning root request.budget (rulebook_of request.packs) l) where
   filed_for : IsFiledFor request.packs l
   filed_for = alone_is_filed request.packs root request.budget l ledger alone reduced.normal letter
 
@@ -83,7 +84,7 @@ module _ (stand : FiledSpecsStand tile_meaning) (alone_is_filed : AloneIsFiled) 
       → text ≡ spec_text request.basis steps entries (terms_to request.terms (class_counts tile_meaning entries 0)) → IsSearchAnswer request 0 text (Some l)
   found_answer entries steps text picked spec traced written =
       let terms : terms_to request.terms (class_counts tile_meaning entries 0) ≡ terms_of request.basis request.terms = same_terms request.terms (class_counts tile_meaning entries 0) (avoiders request.basis) (root_counts request.basis l entries own_root spec.valid) in
-      found l text
+      found l text (λ entries own. are_tried request.packs l entries filed_for own)
       (record {
         explored = explored Found (stands l entries picked);
         says = record { entries = entries; spec = record { picked = picked; valid = spec.valid; filed = spec.filed }; written = written ∙ (λ i. spec_text request.basis (traced i) entries (terms i)) };

@@ -16,7 +16,7 @@ use Rattle.tilescope.specs.declared.words.WordFault.{WordFault}
 use Rattle.tilescope.specs.declared.words.WordFault.TheVariants.{Memory}
 use Rattle.tilescope.specs.Words.{Text, Reads, IsRefused}
 use Rattle.tilescope.specs.Usage.{usage_line}
-use Rattle.tilescope.specs.Searches.{TileBooks, TileEntries, IsExplored, IsSpecOf, IsWithout, IsAnswerText}
+use Rattle.tilescope.specs.Searches.{TileBooks, TileEntries, IsExplored, IsSpecOf, IsWithout, AreRulesOfPack, IsAnswerText}
 
 -- the words are refused, and not for want of memory
 pub record AreRefused (words : List Text) : Type 0 where
@@ -43,7 +43,7 @@ pub record IsSearched (request : Request) (ledger : TileBooks) (why : Reason) (t
 
 -- the answer of a search: a specification, or none where every class was expanded or the budget is spent
 pub data IsSearchAnswer (request : Request) : ℕ → Text → Option TileBooks → Type 0 where
-  found : (ledger : TileBooks) (text : Text) → IsSearched request ledger Found text → IsSearchAnswer request 0 text (Some ledger)
+  found : (ledger : TileBooks) (text : Text) → AreRulesOfPack request.packs ledger → IsSearched request ledger Found text → IsSearchAnswer request 0 text (Some ledger)
   none : (ledger : TileBooks) (why : Reason) (text : Text) → why ≢ Found → IsWithout request.packs ledger → IsSearched request ledger why text → IsSearchAnswer request 1 text (Some ledger)
 
 -- the status, the text and the ledger of an answer
@@ -111,6 +111,15 @@ pub record HasSpecification (ledger : Option TileBooks) : Type 0 where
   pub kept : ledger ≡ Some books
   pub entries : TileEntries
   pub spec : IsSpecOf books entries
+
+-- the rules of that specification are of the pack that the words name
+pub record HasSpecificationByPack (words : List Text) (ledger : Option TileBooks) : Type 0 where
+  pub accepted : AreAccepted words
+  pub books : TileBooks
+  pub kept : ledger ≡ Some books
+  pub entries : TileEntries
+  pub spec : IsSpecOf books entries
+  pub tried : AreTried accepted.request.packs entries
 
 -- the root stands nowhere among the rules filed, and no valid specification of it has all its rules among them
 pub record HasNoSpecification (ledger : Option TileBooks) : Type 0 where

@@ -7,10 +7,11 @@ use Rattle.steps.specs.Traces.{IsNormal, replay}
 use Rattle.normal_form.specs.TraceLaws.{trace}
 use Rattle.css_domain.specs.Ledgers.{Books, Counts, classes, counts, is_all_done}
 use Rattle.css_domain.specs.Entries.{Entry, ValidSpec, Picked}
+use Rattle.css_domain.specs.FiledSpecs.{IsFiledSpec}
 use Rattle.css_domain.specs.LedgerFacts.{IsLedger}
 use Rattle.css_domain.specs.Reasons.{Reason, RootStands, EndsFor, Alone}
 use Rattle.css_domain.specs.Reasons.Reason.{Found, Exhausted, Budget}
-use Rattle.css_terms.specs.Terms.{terms_of}
+use Rattle.basis_terms.specs.BasisTerms.{terms_of}
 use Rattle.tile_rules.specs.Avoiding.{CountsAvoiders}
 use Rattle.rule_kinds.specs.Choices.{Packs}
 use Rattle.tile_rules.specs.Complete.{rulebook_of}
@@ -67,6 +68,10 @@ pub record IsWithout (packs : Packs) (l : TileBooks) : Type 0 where
   pub none : RootStands tile_meaning l → ⊥
   pub none_filed : (entries : TileEntries) → ValidSpec tile_meaning entries l.root → ((e : Entry Tiles TilingRule) → IsIn e entries → IsIn e.rule l.rules) → ⊥
   pub beyond : is_all_done tile_meaning l ≡ true → (entries : TileEntries) → ValidSpec tile_meaning entries l.root → AreTried packs entries → ⊥
+
+-- a specification by the ledger's rules is one by rules of the pack
+abbrev pub AreRulesOfPack : Packs → TileBooks → Type 0
+AreRulesOfPack packs l = (entries : TileEntries) → IsFiledSpec tile_meaning l entries → AreTried packs entries
 
 -- the text that says how the search of a ledger ended
 abbrev pub IsAnswerText : List (List ℕ) → ℕ → TileBooks → Reason → Text → Type 0

@@ -1,7 +1,7 @@
 ghost use Rattle.std.specs.Prelude.{◌≡◌, ◌≢◌, [], ◌∷◌, IsNone, map, string_bytes};
 ghost use Rattle.outside.specs.Bytes.{GrewBy};
 ghost use Rattle.outside.specs.Counts.{Rose};
-ghost use Rattle.tilescope.specs.Answers.{AreRefused, AreAccepted, IsOneOf, IsStatus, IsUsage, IsUsagePrefix, IsFoundWritten, IsNoneWritten, HasSpecification, HasNoSpecification, HasEnded, IsBeyondPack, IsSolved, IsSearchPrefix};
+ghost use Rattle.tilescope.specs.Answers.{AreRefused, AreAccepted, IsOneOf, IsStatus, IsUsage, IsUsagePrefix, IsFoundWritten, IsNoneWritten, HasSpecification, HasSpecificationByPack, HasNoSpecification, HasEnded, IsBeyondPack, IsSolved, IsSearchPrefix};
 
 use crate::answer::{Answer, answer_to};
 use css_ledger::Ledger;
@@ -33,6 +33,7 @@ pub fn run_plain<S: Source, K: Sink>(
 
     ensures found { result.status ≡ 0 → IsFoundWritten (map string_bytes words.now) result.ledger (K.held sink.old) (K.held sink.new) }
     ensures valid { result.status ≡ 0 → HasSpecification result.ledger }
+    ensures by_pack { result.status ≡ 0 → HasSpecificationByPack (map string_bytes words.now) result.ledger }
     ensures none { result.status ≡ 1 → IsNoneWritten (map string_bytes words.now) result.ledger (K.held sink.old) (K.held sink.new) }
     ensures no_specification { result.status ≡ 1 → HasNoSpecification result.ledger }
     ensures ended { result.status ≡ 1 → HasEnded result.ledger }

@@ -1,6 +1,7 @@
 -- The first series has the terms.
 use Rattle.std.proofs.Common.{◌≡◌, ◌<◌, ◌+◌, [], length, get_or, sym, ap, ◌∙◌, subst, arith}
-use Rattle.css_terms.specs.Series.{items_of, is_big}
+use Rattle.css_terms.specs.Series.{items_of, lists_of, is_big}
+use Rattle.css_terms.specs.Rows.{AreTails, AllShow}
 use Rattle.css_terms.specs.declared.term.Term.TheVariants.{Exact}
 use Rattle.css_terms.proofs.Cuts.{NoneBig, ended_terms, whole_terms, none_more}
 use Rattle.css_terms.proofs.evaluate.terms_of_rows.Goals as goal
@@ -14,7 +15,7 @@ returns-then-is_first_big c =
           let inside : 0 < length lists = omega (arith, after.as_many, c.requires.some) in
           c.first_of.ensures
           ∙ ended_terms (count 0) (get_or lists 0 []) c.loop-n.n c.args.last (after.long 0 c.requires.some) (omega (arith, c.loop-n-test.true)) (c.in_ok-add_terms.ensures.shown count counts (c.loop-n.invariant.1 count counts) 0 inside) (c.loop-n.invariant.2 count counts)
-          (ap (λ vs. is_big (get_or (get_or (items_of vs) 0 []) c.loop-n.n (Exact 0))) (sym c.as_slice-in-loop-n.ensures.value) ∙ sym c.is_first_big.ensures ∙ c.if-is_first_big.true);
+          (ap (λ vs. is_big (get_or (get_or (items_of vs) 0 []) c.loop-n.n (Exact 0))) (sym c.as_slice-terms.ensures.value) ∙ sym c.is_first_big.ensures ∙ c.if-is_first_big.true);
     }
 
 pub loop-n-preserved : goal.loop-n-preserved
@@ -26,8 +27,15 @@ loop-n-preserved c =
       λ count counts. c.in_ok-add_terms.ensures.shown count counts (c.loop-n.invariant.1 count counts),
       λ count counts. let long = after.long 0 c.requires.some in
           none_more (count 0) (get_or lists 0 []) c.loop-n.n (omega (arith, long)) (c.in_ok-add_terms.ensures.shown count counts (c.loop-n.invariant.1 count counts) 0 inside) (c.loop-n.invariant.2 count counts)
-          (ap (λ vs. is_big (get_or (get_or (items_of vs) 0 []) c.loop-n.n (Exact 0))) (sym c.as_slice-in-loop-n.ensures.value) ∙ sym c.is_first_big.ensures ∙ c.if-is_first_big.false),
+          (ap (λ vs. is_big (get_or (get_or (items_of vs) 0 []) c.loop-n.n (Exact 0))) (sym c.as_slice-terms.ensures.value) ∙ sym c.is_first_big.ensures ∙ c.if-is_first_big.false),
+      c.in_ok-add_tails.ensures,
     )
+
+pub add_terms-requires-clause-tails : goal.add_terms-requires-clause-tails
+add_terms-requires-clause-tails c = subst (λ vs. AreTails c.args.rows.now (lists_of vs) c.loop-n.n) (sym c.as_slice-kept.ensures.value) c.loop-n.invariant.3
+
+pub add_tails-requires-clause-shown : goal.add_tails-requires-clause-shown
+add_tails-requires-clause-shown c = λ count counts. subst (λ vs. AllShow (items_of vs) count) (sym c.as_slice-terms.ensures.value) (c.in_ok-add_terms.ensures.shown count counts (c.loop-n.invariant.1 count counts))
 
 pub returns : goal.returns
 returns c =

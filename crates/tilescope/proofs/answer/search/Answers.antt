@@ -19,7 +19,7 @@ returns-in_default c =
     let reduced = subst (λ (basis : List (List ℕ)). IsReducedRoot basis c.in_ok-root.field-0.root) c.as_slice-basis.ensures c.in_ok-root.ensures.root in
     let alone = subst (λ (packs : Packs). Alone tile_meaning c.in_ok-root.field-0.root c.args.request.now.budget (rulebook_of packs) c.in_ok-ledger.field-0.ledger) c.of-expander.ensures c.in_ok-ledger.ensures.alone in
     let unsettled = subst (λ (spec : Option TileEntries). GoesWith tile_meaning c.in_ok-ledger.field-0.ledger spec) c.in_default.is c.in_ok-ledger.ensures.spec in
-    none_answer c.filed_specs_stand.ensures c.exhausted_is_beyond_the_pack.ensures.alone c.exhausted_is_beyond_the_pack.ensures.normal c.exhausted_is_beyond_the_pack.ensures.none c.args.request.now c.requires.letter c.in_ok-root.field-0.root reduced
+    none_answer c.filed_specs_stand.ensures c.exhausted_is_beyond_the_pack.ensures.alone c.exhausted_is_beyond_the_pack.ensures.normal c.exhausted_is_beyond_the_pack.ensures.none c.exhausted_is_beyond_the_pack.ensures.found c.args.request.now c.requires.letter c.in_ok-root.field-0.root reduced
     c.in_ok-ledger.field-0.ledger c.in_ok-ledger.ensures.ledger alone (reason_as c.in_ok-ledger.field-0.reason) c.in_ok-text.text.items c.in_ok-ledger.ensures.reason unsettled
     (c.in_ok-text.ensures ∙ ap (λ (n : Counts). none_line (reason_as c.in_ok-ledger.field-0.reason) n) c.counts.ensures.answer)
 
@@ -31,6 +31,6 @@ returns c =
     let filed = subst (λ (spec : Option TileEntries). IfSome spec (λ entries. IsFiledSpec tile_meaning c.in_ok-ledger.field-0.ledger entries)) c.in-Some.is c.in_ok-ledger.ensures.filed in
     let traced : c.as_slice.result.now ≡ trace (root_of c.args.request.now.basis) = c.as_slice.ensures.value ∙ c.in_ok-root.ensures.trace ∙ ap (λ (basis : List (List ℕ)). trace (root_of basis)) c.as_slice-basis.ensures in
     let terms = c.as_slice-2.ensures.value ∙ c.in_ok-terms.ensures.terms in
-    found_answer c.filed_specs_stand.ensures c.exhausted_is_beyond_the_pack.ensures.alone c.exhausted_is_beyond_the_pack.ensures.normal c.exhausted_is_beyond_the_pack.ensures.none c.args.request.now c.requires.letter c.in_ok-root.field-0.root reduced
+    found_answer c.filed_specs_stand.ensures c.exhausted_is_beyond_the_pack.ensures.alone c.exhausted_is_beyond_the_pack.ensures.normal c.exhausted_is_beyond_the_pack.ensures.none c.exhausted_is_beyond_the_pack.ensures.found c.args.request.now c.requires.letter c.in_ok-root.field-0.root reduced
     c.in_ok-ledger.field-0.ledger c.in_ok-ledger.ensures.ledger alone c.in-Some.spec c.as_slice.result.now c.in_ok-text-2.text.items picked filed traced
     (c.in_ok-text-2.ensures ∙ (λ i. spec_text (c.as_slice-basis.ensures i) c.as_slice.result.now c.in-Some.spec (terms i)))

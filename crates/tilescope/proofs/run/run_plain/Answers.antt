@@ -1,5 +1,5 @@
 use Rattle.std.proofs.Common.{rules}
-use Rattle.tilescope.proofs.Answering.{answer_status, answer_refused, answer_accepted, answer_solved, answer_unsolved, answer_valid, answer_has_memory, answer_none, answer_beyond, answer_ended, answer_usage, answer_found, answer_none_written, answer_prefix, search_prefix, no_fault, memory_status, memory_refused, memory_accepted, fault_status, fault_refused, fault_accepted}
+use Rattle.tilescope.proofs.Answering.{answer_status, answer_refused, answer_accepted, answer_solved, answer_unsolved, answer_valid, answer_by_pack, answer_has_memory, answer_none, answer_beyond, answer_ended, answer_usage, answer_found, answer_none_written, answer_prefix, search_prefix, no_fault, memory_status, memory_refused, memory_accepted, fault_status, fault_refused, fault_accepted}
 use Rattle.tilescope.proofs.run.run_plain.Goals as goal
 
 pub returns-in_default-clause-statuses : goal.returns-in_default-clause-statuses
@@ -25,6 +25,9 @@ returns-in-Ok-write_all-clause-found g c = λ e. answer_found _ _ _ _ _ _ c.in-O
 
 pub returns-in-Ok-write_all-clause-valid : goal.returns-in-Ok-write_all-clause-valid
 returns-in-Ok-write_all-clause-valid g c = answer_valid _ _ _ _ c.in-Ok.ensures
+
+pub returns-in-Ok-write_all-clause-by_pack : goal.returns-in-Ok-write_all-clause-by_pack
+returns-in-Ok-write_all-clause-by_pack g c = answer_by_pack _ _ _ _ c.in-Ok.ensures
 
 pub returns-in-Ok-write_all-clause-untouched : goal.returns-in-Ok-write_all-clause-untouched
 returns-in-Ok-write_all-clause-untouched g c = λ e. absurd (answer_has_memory _ _ _ _ c.in-Ok.ensures e)

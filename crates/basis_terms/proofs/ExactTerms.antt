@@ -1,12 +1,12 @@
 -- What an exact term tells.
-use Rattle.std.proofs.Common.{◌≡◌, ℕ, zero, suc, ◌+◌, ◌^◌, Bool, true, false, List, [], ◌∷◌, refl, sym, ap, ◌∙◌, subst, arith, nat_lt}
-use Rattle.std.specs.Prelude.{map, slice_get, Some, None, if◌then◌else◌}
+use Rattle.std.proofs.Common.{◌≡◌, ℕ, zero, suc, ◌+◌, ◌^◌, Bool, true, false, List, ◌∷◌, refl, sym, ap, ◌∙◌, subst, arith, nat_lt}
+use Rattle.std.specs.Prelude.{map, slice_get, Some, if◌then◌else◌}
 use Rattle.std.specs.List.{range_with_len}
 use Rattle.patterns.specs.Occurs.{avoiders}
 use Rattle.css_terms.specs.declared.term.Term.{Term}
 use Rattle.css_terms.specs.declared.term.Term.TheVariants.{Exact, Big}
 use Rattle.css_terms.specs.Terms.{capped, cut}
-use Rattle.css_terms.specs.SpecRows.{ExactTermsAreAvoiders}
+use Rattle.basis_terms.specs.BasisTerms.{ExactTermsAreAvoiders}
 
 abbrev number_or : ℕ → Term → ℕ
 number_or d (Exact x) = x

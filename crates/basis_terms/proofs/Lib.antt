@@ -1,0 +1,2 @@
+mod ExactTerms
+mod BasisRows
