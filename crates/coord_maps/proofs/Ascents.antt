@@ -11,10 +11,10 @@ use Rattle.std.specs.Ordering.{nat_cmp, ordering_then, ordering_reverse}
 use Rattle.std.proofs.lemmas.Bool.Decides.{nat_tests}
 use Rattle.std.proofs.lemmas.Cmp.{nat_cmp_total, nat_list_cmp_total}
 use Rattle.std.proofs.lemmas.List.{map-append, length-map}
-use Rattle.patterns.specs.Parts.{IsIn}
 use Rattle.lists.specs.Members.IsIn.{here, later}
-use Rattle.patterns.proofs.Lists.{IsIn-append_cases}
-use Rattle.patterns.proofs.NoRepeat.{from_IsIn-flat_map, IsIn-range_with_len}
+use Rattle.lists.specs.Members.{IsIn}
+use Rattle.lists.proofs.Members.{IsIn-append_cases, from_IsIn-flat_map, only_in}
+use Rattle.lists.proofs.Ranges.{IsIn-range_with_len}
 use Rattle.gridded.specs.declared.cell.Cell.{Cell}
 use Rattle.gridded.specs.Grids.{Point, letter_of, cell_of}
 use Rattle.gridded.specs.Orders.{cell_cmp, letters_of, cells_of, gridded_cmp}
@@ -54,12 +54,8 @@ first_differs s r t p x y v w e l =
     ∙ cells
 
 -- ---- what is listed begins with what was placed
-the_only : {X : Type 0} (x y : X) → IsIn x (y ∷ []) → x ≡ y
-the_only x _ here = refl
-the_only x y (later _ n) = elim n [ ]
-
 completions_continue : (m : GridMap) (s g h : List Point) → IsIn h (completions m s g) → (r : List Point) × (h ≡ s ++ r) × (letters_of r ≡ letters_of g)
-completions_continue m s [] h k = ([], the_only h s k ∙ sym (append-nil s), refl)
+completions_continue m s [] h k = ([], only_in k ∙ sym (append-nil s), refl)
 completions_continue m s (p ∷ g) h k =
     let column = from_IsIn-flat_map (in_column m s p g) (lines_over m.columns p.cell.x) k in
     let cell = from_IsIn-flat_map (in_cell m s p g column.0) (lines_over m.rows p.cell.y) column.2 in

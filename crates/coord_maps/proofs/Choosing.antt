@@ -4,10 +4,11 @@ use Rattle.std.specs.Prelude.{◌&&◌, not, map, flat_map, nat_lt, nat_le, nat_
 use Rattle.std.specs.List.{range_with_len, list_all, AllByRecursion}
 use Rattle.std.proofs.Common.{⊎_elim}
 use Rattle.std.proofs.lemmas.Bool.Decides.{nat_tests}
-use Rattle.patterns.proofs.Booleans.{and_end, and_regroup}
+use Rattle.std.proofs.Math.Bool.{and-true}
 use Rattle.coord_maps.specs.LineMaps.{Cut, IsCut, old_line, first_line}
 use Rattle.coord_maps.specs.Preimages.{lines_over}
 use Rattle.coord_maps.specs.Ways.{ways}
+use Rattle.lists.proofs.Tests.{and_regroup}
 
 -- ---- sums
 abbrev pub total : (ℕ → ℕ) → List ℕ → ℕ
@@ -70,7 +71,7 @@ ways_from follow over s [] = 1
 ways_from follow over s (p ∷ g) = total (λ v. cond (comes follow s (p.0, v)) (ways_from follow over (s ++ (p.0, v) ∷ []) g) 0) (over p.1)
 
 comes-push : (follow : Mark → Mark → Bool) (s : List Mark) (p q : Mark) → comes follow (s ++ p ∷ []) q ≡ (comes follow s q && follow p q)
-comes-push follow [] p q = and_end (follow p q)
+comes-push follow [] p q = and-true (follow p q)
 comes-push follow (r ∷ s) p q = rw (comes-push follow s p q) (and_regroup (follow r q) (comes follow s q) (follow p q))
 
 -- ---- in order of the letters

@@ -5,8 +5,8 @@ use Rattle.std.specs.List.{list_all, list_any, AllByRecursion}
 use Rattle.std.proofs.lemmas.Bool.Decides.{nat_tests}
 use Rattle.std.proofs.lemmas.List.{map-append}
 use Rattle.std.proofs.lemmas.List.Sums.{sum_by-cons}
+use Rattle.std.proofs.lemmas.Bool.{and_parts}
 use Rattle.patterns.specs.Words.{has_no_repeats}
-use Rattle.patterns.proofs.Booleans.{and_true}
 use Rattle.gridded.specs.Grids.{Point, may_follow, is_consistent}
 use Rattle.gridded.specs.declared.cell.Cell.{Cell}
 use Rattle.gridded.specs.Orders.{letters_of, cells_of}
@@ -67,21 +67,21 @@ completions_counted m s (p ∷ g) =
 -- ---- what a gridded permutation keeps
 columns_of_rise : (g : List Point) → is_consistent g ≡ true → AreRising (map line_of (map column_mark g))
 columns_of_rise [] e = tt
-columns_of_rise (p ∷ g) e = let a = and_true (list_all (λ q. may_follow p q) g) (is_consistent g) e in (each g a.0, columns_of_rise g a.1)
+columns_of_rise (p ∷ g) e = let a = and_parts (list_all (λ q. may_follow p q) g) (is_consistent g) e in (each g a.0, columns_of_rise g a.1)
   where
     each : (h : List Point) → list_all (λ q. may_follow p q) h ≡ true → AllByRecursion (λ y. p.cell.x ≤ y) (map line_of (map column_mark h))
     each [] e = tt
     each (q ∷ h) e =
-        let a = and_true (may_follow p q) (list_all (λ r. may_follow p r) h) e in
-        let b = and_true (columns_rise (column_mark p) (column_mark q)) (rows_agree (row_mark p) (row_mark q)) a.0 in
+        let a = and_parts (may_follow p q) (list_all (λ r. may_follow p r) h) e in
+        let b = and_parts (columns_rise (column_mark p) (column_mark q)) (rows_agree (row_mark p) (row_mark q)) a.0 in
         let rises : p.cell.x ≤ q.cell.x = grind (arith, nat_tests, b.0) in
         (rises, each h a.1)
 
 rows_of_apart : (g : List Point) → is_consistent g ≡ true → has_no_repeats (letters_of g) ≡ true → AreApart (map row_mark g)
 rows_of_apart [] e d = tt
 rows_of_apart (p ∷ g) e d =
-    let a = and_true (list_all (λ q. may_follow p q) g) (is_consistent g) e in
-    let b = and_true (not (list_any (λ l. p.letter == l) (letters_of g))) (has_no_repeats (letters_of g)) d in
+    let a = and_parts (list_all (λ q. may_follow p q) g) (is_consistent g) e in
+    let b = and_parts (not (list_any (λ l. p.letter == l) (letters_of g))) (has_no_repeats (letters_of g)) d in
     (each g a.0 b.0, rows_of_apart g a.1 b.1)
   where
     apart : (q : Point) → rows_agree (row_mark p) (row_mark q) ≡ true → nat_eq p.letter q.letter ≡ false → IsApart (row_mark p) (row_mark q)
@@ -100,8 +100,8 @@ rows_of_apart (p ∷ g) e d =
     each : (h : List Point) → list_all (λ q. may_follow p q) h ≡ true → not (list_any (λ l. p.letter == l) (letters_of h)) ≡ true → AllByRecursion (λ q. IsApart (row_mark p) q) (map row_mark h)
     each [] e d = tt
     each (q ∷ h) e d =
-        let a = and_true (may_follow p q) (list_all (λ r. may_follow p r) h) e in
-        let b = and_true (columns_rise (column_mark p) (column_mark q)) (rows_agree (row_mark p) (row_mark q)) a.0 in
+        let a = and_parts (may_follow p q) (list_all (λ r. may_follow p r) h) e in
+        let b = and_parts (columns_rise (column_mark p) (column_mark q)) (rows_agree (row_mark p) (row_mark q)) a.0 in
         let c = either (p.letter == q.letter) (list_any (λ l. p.letter == l) (letters_of h)) d in
         (apart q b.1 c.0, each h a.1 c.1)
 

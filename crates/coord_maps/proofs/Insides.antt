@@ -4,12 +4,12 @@ use Rattle.std.specs.Prelude.{◌&&◌, map, nat_lt, All}
 use Rattle.std.specs.List.{range_with_len, AllByRecursion}
 use Rattle.std.proofs.lemmas.Bool.Decides.{nat_tests}
 use Rattle.std.proofs.lemmas.List.Elements.{All-from_recursion}
-use Rattle.patterns.specs.Parts.{IsIn}
-use Rattle.lists.specs.Members.IsIn.{here, later}
-use Rattle.patterns.specs.Words.{words}
-use Rattle.patterns.proofs.Booleans.{both_true}
-use Rattle.patterns.proofs.Lists.{from_IsIn-map, from_IsIn-filter}
-use Rattle.patterns.proofs.NoRepeat.{from_IsIn-flat_map, IsIn-range_with_len, from_IsIn-words}
+use Rattle.std.proofs.lemmas.Bool.{and_from}
+use Rattle.lists.proofs.Members.{each_in, from_IsIn-map, from_IsIn-filter, from_IsIn-flat_map}
+use Rattle.lists.specs.Members.{IsIn}
+use Rattle.lists.specs.Words.{words}
+use Rattle.lists.proofs.Ranges.{IsIn-range_with_len}
+use Rattle.lists.proofs.Words.{from_IsIn-words}
 use Rattle.gridded.specs.Grids.{Point, cells_in, points_in, gridded_of, is_gridded}
 use Rattle.gridded.specs.Orders.{gridded_eq}
 use Rattle.gridded.specs.Places.{fits_grid}
@@ -31,11 +31,11 @@ point_fits w h n p k =
     let low = (IsIn-range_with_len 0 h row.0 row.1).1 in
     let in_columns : nat_lt column.0 w ≡ true = grind (arith, nat_tests, left) in
     let in_rows : nat_lt row.0 h ≡ true = grind (arith, nat_tests, low) in
-    rw (of_cell.2, row.2) (both_true (nat_lt column.0 w) (nat_lt row.0 h) in_columns in_rows)
+    rw (of_cell.2, row.2) (and_from (nat_lt column.0 w) (nat_lt row.0 h) in_columns in_rows)
 
 points_fit : (w h n : ℕ) (g : List Point) → AllByRecursion (λ p. IsIn p (points_in w h n)) g → fits_grid w h g ≡ true
 points_fit w h n [] k = refl
-points_fit w h n (p ∷ g) k = both_true _ _ (point_fits w h n p k.0) (points_fit w h n g k.1)
+points_fit w h n (p ∷ g) k = and_from _ _ (point_fits w h n p k.0) (points_fit w h n g k.1)
 
 pub preimage_fits : (m : GridMap) (g h : List Point) → IsIn h (preimages m g) → fits_new m h ≡ true
 preimage_fits m g h k =
@@ -43,17 +43,13 @@ preimage_fits m g h k =
     let b = from_IsIn-filter is_gridded (words (points_in (new_lines m.columns) (new_lines m.rows) (length g)) (length g)) a.0 in
     points_fit (new_lines m.columns) (new_lines m.rows) (length g) h (from_IsIn-words (points_in (new_lines m.columns) (new_lines m.rows) (length g)) (length g) h b.0).0
 
-all_in : {X : Type 0} (P : X → Type 0) (xs : List X) → ((x : X) → IsIn x xs → P x) → AllByRecursion P xs
-all_in P [] f = tt
-all_in P (x ∷ xs) f = (f x here, all_in P xs (λ y m. f y (later x m)))
-
 pub preimages_fit : (m : GridMap) (patterns : List (List Point)) → IsInGrid (new_lines m.columns) (new_lines m.rows) (preimages_of m patterns)
 preimages_fit m patterns =
     All-from_recursion (λ h. fits_new m h ≡ true) (preimages_of m patterns)
-    (all_in (λ h. fits_new m h ≡ true) (preimages_of m patterns) (λ h k. let at = from_IsIn-flat_map (preimages m) patterns k in preimage_fits m at.0 h at.2))
+    (each_in (λ h. fits_new m h ≡ true) (preimages_of m patterns) (λ h k. let at = from_IsIn-flat_map (preimages m) patterns k in preimage_fits m at.0 h at.2))
 
 pub each_preimages_fit : (m : GridMap) (lists : List (List (List Point))) → All (λ patterns. IsInGrid (new_lines m.columns) (new_lines m.rows) patterns) (each_preimages_of m lists)
 each_preimages_fit m lists =
     All-from_recursion (λ patterns. IsInGrid (new_lines m.columns) (new_lines m.rows) patterns) (each_preimages_of m lists)
-    (all_in (λ patterns. IsInGrid (new_lines m.columns) (new_lines m.rows) patterns) (each_preimages_of m lists)
+    (each_in (λ patterns. IsInGrid (new_lines m.columns) (new_lines m.rows) patterns) (each_preimages_of m lists)
     (λ patterns k. let at = from_IsIn-map (preimages_of m) lists k in subst (λ ps. IsInGrid (new_lines m.columns) (new_lines m.rows) ps) (sym at.2) (preimages_fit m at.0)))

@@ -11,3 +11,4 @@ pub mod Holding
 pub mod Stretched
 pub mod Ascents
 pub mod Rows
+pub mod Thirds

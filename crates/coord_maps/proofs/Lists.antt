@@ -6,10 +6,10 @@ use Rattle.std.specs.Cmp.Lexicographic.{pointwise}
 use Rattle.std.proofs.lemmas.Bool.Decides.{nat_tests, Decides-eqb}
 use Rattle.std.proofs.lemmas.List.{map-append}
 use Rattle.std.proofs.lemmas.List.Elements.{filter-append, filter_agree}
-use Rattle.std.proofs.lemmas.List.Concat.{flat_map-append}
 use Rattle.std.proofs.lemmas.List.Folds.{flat_map-map}
-use Rattle.patterns.specs.Words.{words, has_no_repeats}
-use Rattle.patterns.proofs.Booleans.{and_true, and_none, and_end}
+use Rattle.std.proofs.lemmas.Bool.{and_parts}
+use Rattle.std.proofs.Math.Bool.{and-false, and-true}
+use Rattle.patterns.specs.Words.{has_no_repeats}
 use Rattle.gridded.specs.declared.cell.Cell.{Cell}
 use Rattle.gridded.specs.Grids.{Point, may_follow, is_consistent, is_gridded, cells_in, points_in}
 use Rattle.gridded.specs.Orders.{cell_eq, gridded_eq, letters_of, cells_of}
@@ -20,25 +20,12 @@ use Rattle.coord_maps.specs.GridMaps.{IsGridMap, old_cell, collapse, fits_old}
 use Rattle.coord_maps.specs.Preimages.{preimages, lines_over, may_come, put, completions}
 use Rattle.gridded.proofs.Moved.{letters_moved}
 use Rattle.coord_maps.proofs.Runs.{cell_at, cells_filtered}
+use Rattle.coord_maps.proofs.Placed.{come-push}
+use Rattle.lists.proofs.Maps.{flat_map-agree, flat_map-flat_map, flat_map-tested}
+use Rattle.lists.proofs.Filters.{filter-filter}
+use Rattle.lists.specs.Words.{words}
 
 -- ---- lists
-flat_map-agree : {X Z : Type 0} (f g : X → List Z) → ((x : X) → f x ≡ g x) → (xs : List X) → flat_map f xs ≡ flat_map g xs
-flat_map-agree f g e [] = refl
-flat_map-agree f g e (x ∷ xs) = rw (e x, flat_map-agree f g e xs) refl
-
-flat_map-flat_map : {X Y Z : Type 0} (f : Y → List Z) (g : X → List Y) (xs : List X) → flat_map f (flat_map g xs) ≡ flat_map (λ x. flat_map f (g x)) xs
-flat_map-flat_map f g [] = refl
-flat_map-flat_map f g (x ∷ xs) = flat_map-append f (g x) (flat_map g xs) ∙ ap (λ r. flat_map f (g x) ++ r) (flat_map-flat_map f g xs)
-
--- only what passes a test gives items
-flat_map-tested : {X Z : Type 0} (t : X → Bool) (f : X → List Z) (xs : List X) → flat_map (λ x. cond (t x) (f x) []) xs ≡ flat_map f (filter t xs)
-flat_map-tested t f [] = refl
-flat_map-tested {X} {Z} t f (x ∷ xs) = go (t x) (flat_map-tested t f xs)
-  where
-    go : (b : Bool) → flat_map (λ z. cond (t z) (f z) []) xs ≡ flat_map f (filter t xs) → cond b (f x) [] ++ flat_map (λ z. cond (t z) (f z) []) xs ≡ flat_map f (cond b (x ∷ filter t xs) (filter t xs))
-    go true e = ap (λ r. f x ++ r) e
-    go false e = e
-
 flat_map-none : {Z : Type 0} (f : ℕ → List Z) (a n : ℕ) → ((i : ℕ) → a ≤ i → f i ≡ []) → flat_map f (range_with_len a n) ≡ []
 flat_map-none f a zero e = refl
 flat_map-none f a (suc n) e = rw (e a (omega arith)) (flat_map-none f (a + 1) n (λ i h. e i (omega arith)))
@@ -102,11 +89,11 @@ over_points m n s p K k l hx hy =
     flat_map-flat_map F (λ letter. map (at letter) C) (range_with_len 0 n)
     ∙ flat_map-single (λ letter. flat_map F (map (at letter) C)) p.letter 0 n (omega arith) (omega arith) (λ i e. flat_map-map F (at i) C ∙ flat_map-empty (λ c. F (at i c)) C (λ c. rw e refl))
     ∙ flat_map-map F (at p.letter) C
-    ∙ flat_map-agree (λ c. F (at p.letter c)) (λ c. cond (cell_eq (old_cell m c) p.cell) (G c) []) (λ c. rw ((Decides-eqb p.letter p.letter).1 refl) (nested (cell_eq (old_cell m c) p.cell) (may_come s (at p.letter c)) (K (at p.letter c)))) C
+    ∙ flat_map-agree (λ c. F (at p.letter c)) (λ c. cond (cell_eq (old_cell m c) p.cell) (G c) []) C (λ c _. rw ((Decides-eqb p.letter p.letter).1 refl) (nested (cell_eq (old_cell m c) p.cell) (may_come s (at p.letter c)) (K (at p.letter c))))
     ∙ flat_map-tested (λ c. cell_eq (old_cell m c) p.cell) G C
     ∙ ap (flat_map G) (cells_filtered m p.cell k hx hy)
     ∙ flat_map-flat_map G (λ x. map (cell_at x) (lines_over m.rows p.cell.y)) (lines_over m.columns p.cell.x)
-    ∙ flat_map-agree (λ x. flat_map G (map (cell_at x) (lines_over m.rows p.cell.y))) (λ x. flat_map (λ y. G (cell_at x y)) (lines_over m.rows p.cell.y)) (λ x. flat_map-map G (cell_at x) (lines_over m.rows p.cell.y)) (lines_over m.columns p.cell.x)
+    ∙ flat_map-agree (λ x. flat_map G (map (cell_at x) (lines_over m.rows p.cell.y))) (λ x. flat_map (λ y. G (cell_at x y)) (lines_over m.rows p.cell.y)) (lines_over m.columns p.cell.x) (λ x _. flat_map-map G (cell_at x) (lines_over m.rows p.cell.y))
   where
     C : List Cell
     C = cells_in (new_lines m.columns) (new_lines m.rows)
@@ -126,8 +113,8 @@ over_points m n s p K k l hx hy =
 
 pub in_old : (m : GridMap) (p : Point) (g : List Point) → fits_old m (p ∷ g) ≡ true → (p.cell.x < m.columns.lines) × (p.cell.y < m.rows.lines) × (fits_old m g ≡ true)
 in_old m p g e =
-    let a = and_true (nat_lt p.cell.x m.columns.lines && nat_lt p.cell.y m.rows.lines) (fits_old m g) e in
-    let b = and_true (nat_lt p.cell.x m.columns.lines) (nat_lt p.cell.y m.rows.lines) a.0 in
+    let a = and_parts (nat_lt p.cell.x m.columns.lines && nat_lt p.cell.y m.rows.lines) (fits_old m g) e in
+    let b = and_parts (nat_lt p.cell.x m.columns.lines) (nat_lt p.cell.y m.rows.lines) a.0 in
     (grind (arith, nat_tests, b.0), grind (arith, nat_tests, b.1), a.1)
 
 -- the search lists, of all words of points, those that pass its test
@@ -137,8 +124,8 @@ listed m n s [] k b e = ap (λ h. h ∷ []) (append-nil s)
 listed m n s (p ∷ g) k b e =
     let o = in_old m p g e in
     all_first m s g p (words A (length g)) A
-    ∙ flat_map-agree (λ q. cond (is_step m s p q) (after (s ++ q ∷ []) (filter (is_lift m (s ++ q ∷ []) g) (words A (length g)))) []) (λ q. cond (is_step m s p q) (completions m (s ++ q ∷ []) g) [])
-    (λ q. ap (λ r. cond (is_step m s p q) r []) (listed m n (s ++ q ∷ []) g k b.1 o.2)) A
+    ∙ flat_map-agree (λ q. cond (is_step m s p q) (after (s ++ q ∷ []) (filter (is_lift m (s ++ q ∷ []) g) (words A (length g)))) []) (λ q. cond (is_step m s p q) (completions m (s ++ q ∷ []) g) []) A
+    (λ q _. ap (λ r. cond (is_step m s p q) r []) (listed m n (s ++ q ∷ []) g k b.1 o.2))
     ∙ over_points m n s p (λ q. completions m (s ++ q ∷ []) g) k b.0 o.0 o.1
   where
     A : List Point
@@ -164,18 +151,10 @@ lines_up-is m (p ∷ g) (q ∷ h) =
     shuffled true false false d = refl
     shuffled false b c d = refl
 
-may_come-more : (s : List Point) (q r : Point) → may_come (s ++ q ∷ []) r ≡ (may_come s r && may_follow q r)
-may_come-more [] q r = and_end (may_follow q r)
-may_come-more (p ∷ s) q r = rw (may_come-more s q r) (regrouped (may_follow p r) (may_come s r) (may_follow q r))
-  where
-    regrouped : (a b c : Bool) → (a && (b && c)) ≡ (a && b && c)
-    regrouped true b c = refl
-    regrouped false b c = refl
-
 all_come-more : (s : List Point) (q : Point) (h : List Point) → list_all (λ r. may_come (s ++ q ∷ []) r) h ≡ (list_all (λ r. may_come s r) h && list_all (λ r. may_follow q r) h)
 all_come-more s q [] = refl
 all_come-more s q (r ∷ h) =
-    rw (may_come-more s q r, all_come-more s q h) (shuffled (may_come s r) (may_follow q r) (list_all (λ t. may_come s t) h) (list_all (λ t. may_follow q t) h))
+    rw (come-push s q r, all_come-more s q h) (shuffled (may_come s r) (may_follow q r) (list_all (λ t. may_come s t) h) (list_all (λ t. may_follow q t) h))
   where
     shuffled : (a b c d : Bool) → (a && b && (c && d)) ≡ (a && c && (b && d))
     shuffled true true c d = refl
@@ -204,14 +183,6 @@ all_come-none : (h : List Point) → list_all (λ q. may_come [] q) h ≡ true
 all_come-none [] = refl
 all_come-none (q ∷ h) = all_come-none h
 
-filter-filter : {X : Type 0} (t u : X → Bool) (xs : List X) → filter t (filter u xs) ≡ filter (λ x. u x && t x) xs
-filter-filter t u [] = refl
-filter-filter {X} t u (x ∷ xs) = go (u x) (filter-filter t u xs)
-  where
-    go : (b : Bool) → filter t (filter u xs) ≡ filter (λ z. u z && t z) xs → filter t (cond b (x ∷ filter u xs) (filter u xs)) ≡ cond (b && t x) (x ∷ filter (λ z. u z && t z) xs) (filter (λ z. u z && t z) xs)
-    go true e = ap (λ r. cond (t x) (x ∷ r) r) e
-    go false e = e
-
 -- what collapses to g has its letters, so they needn't be tested
 test_is : (m : GridMap) (g h : List Point) → has_no_repeats (letters_of g) ≡ true → (is_gridded h && gridded_eq (collapse m h) g) ≡ is_lift m [] g h
 test_is m g h d = go (gridded_eq (collapse m h) g) refl ∙ rw (lines_up-is m g h) (sym (is_lift-is m [] g h ∙ ap (λ r. lines_up m g h && (r && is_consistent h)) (all_come-none h)))
@@ -221,8 +192,8 @@ test_is m g h d = go (gridded_eq (collapse m h) g) refl ∙ rw (lines_up-is m g 
         let same = (gridded_eq_decides (collapse m h) g).0 e in
         let letters : letters_of h ≡ letters_of g = sym (letters_moved (old_cell m) h) ∙ ap (λ r. letters_of r) same in
         let distinct : has_no_repeats (letters_of h) ≡ true = ap has_no_repeats letters ∙ d in
-        rw distinct (and_end (is_consistent h))
-    go false e = and_none (is_gridded h)
+        rw distinct (and-true (is_consistent h))
+    go false e = and-false (is_gridded h)
 
 -- the search from nothing lists the preimages
 pub preimages_listed : (m : GridMap) (g : List Point) → IsGridMap m → AllByRecursion (λ (p : Point). p.letter < length g) g → has_no_repeats (letters_of g) ≡ true → fits_old m g ≡ true → completions m [] g ≡ preimages m g

@@ -12,22 +12,19 @@ use Rattle.coord_maps.specs.Preimages.{may_come, put, completions, in_cell, in_c
 use Rattle.coord_maps.specs.declared.listing.Room.{Room}
 use Rattle.coord_maps.specs.Rooms.{IsRoom}
 use Rattle.coord_maps.proofs.Placed.{placed-put}
+use Rattle.lists.proofs.Ranges.{range_more}
 
-range-push : (a n : ℕ) → range_with_len a (suc n) ≡ range_with_len a n ++ (a + n) ∷ []
-range-push a zero = let none : a ≡ a + 0 = omega arith in ap (λ k. k ∷ []) none
-range-push a (suc n) = let up : a + 1 + n ≡ a + suc n = omega arith in ap (λ r. a ∷ r) (range-push (a + 1) n ∙ ap (λ k. range_with_len (a + 1) n ++ k ∷ []) up)
-
-range_more : {Z : Type 0} (f : ℕ → List Z) (first y : ℕ) → first ≤ y → flat_map f (range_with_len first (y + 1 - first)) ≡ flat_map f (range_with_len first (y - first)) ++ f y
-range_more f first y h =
+flat_map_more : {Z : Type 0} (f : ℕ → List Z) (first y : ℕ) → first ≤ y → flat_map f (range_with_len first (y + 1 - first)) ≡ flat_map f (range_with_len first (y - first)) ++ f y
+flat_map_more f first y h =
     let up : y + 1 - first ≡ suc (y - first) = omega arith in
     let there : first + (y - first) ≡ y = omega arith in
-    ap (λ n. flat_map f (range_with_len first n)) up ∙ ap (flat_map f) (range-push first (y - first)) ∙ flat_map-append f (range_with_len first (y - first)) ((first + (y - first)) ∷ [])
+    ap (λ n. flat_map f (range_with_len first n)) up ∙ ap (flat_map f) (range_more first (y - first)) ∙ flat_map-append f (range_with_len first (y - first)) ((first + (y - first)) ∷ [])
     ∙ ap (λ r. flat_map f (range_with_len first (y - first)) ++ r) (append-nil (f (first + (y - first)))) ∙ ap (λ n. flat_map f (range_with_len first (y - first)) ++ f n) there
 
 -- one more step of a loop
 pub grown : {Z : Type 0} (f : ℕ → List Z) (base now next : List Z) (first y : ℕ) → first ≤ y → now ≡ base ++ flat_map f (range_with_len first (y - first)) → next ≡ now ++ f y → next ≡ base ++ flat_map f (range_with_len first (y + 1 - first))
 grown f base now next first y h e k =
-    k ∙ ap (λ r. r ++ f y) e ∙ append_assoc base (flat_map f (range_with_len first (y - first))) (f y) ∙ ap (λ r. base ++ r) (sym (range_more f first y h))
+    k ∙ ap (λ r. r ++ f y) e ∙ append_assoc base (flat_map f (range_with_len first (y - first))) (f y) ∙ ap (λ r. base ++ r) (sym (flat_map_more f first y h))
 
 -- a run that leaves out numbers which give nothing
 flat_map-trim : {Z : Type 0} (f : ℕ → List Z) (a n b e : ℕ) → a ≤ b → e ≤ a + n → ((i : ℕ) → a ≤ i → i < a + n → (i < b) ⊎ (e ≤ i) → f i ≡ []) → flat_map f (range_with_len a n) ≡ flat_map f (range_with_len b (e - b))

@@ -4,10 +4,8 @@ use Rattle.std.specs.Prelude.{◌&&◌, nat_lt}
 use Rattle.std.specs.List.{AllByRecursion}
 use Rattle.std.proofs.lemmas.Bool.Decides.{nat_tests}
 use Rattle.std.proofs.lemmas.List.{length-map}
-use Rattle.patterns.specs.Parts.{IsIn}
+use Rattle.std.proofs.lemmas.Bool.{and_parts}
 use Rattle.patterns.specs.Words.{has_no_repeats}
-use Rattle.patterns.proofs.Booleans.{and_true}
-use Rattle.patterns.proofs.Lists.{IsIn-filter, from_IsIn-filter, NoRepeats-filter}
 use Rattle.gridded.specs.Grids.{Point, gridded_of, IsGridded}
 use Rattle.gridded.specs.Orders.{letters_of, cells_of, gridded_eq}
 use Rattle.gridded.specs.OrderLaws.{gridded_eq_decides}
@@ -24,6 +22,9 @@ use Rattle.gridded.proofs.Holding.{is_true}
 use Rattle.coord_maps.proofs.Moves.{consistent_collapse}
 use Rattle.coord_maps.proofs.Placed.{gridded_below}
 use Rattle.coord_maps.proofs.Insides.{preimage_fits}
+use Rattle.lists.specs.Members.{IsIn}
+use Rattle.lists.proofs.Members.{IsIn-filter, from_IsIn-filter}
+use Rattle.lists.proofs.Repeats.{NoRepeats-filter}
 
 letters_below : (n : ℕ) (g : List Point) → AllByRecursion (λ (p : Point). p.letter < n) g → AllByRecursion (λ l. l < n) (letters_of g)
 letters_below n [] k = tt
@@ -32,8 +33,8 @@ letters_below n (p ∷ g) k = (k.0, letters_below n g k.1)
 cells_inside : (w h : ℕ) (g : List Point) → fits_grid w h g ≡ true → AllByRecursion (λ c. IsCellOf w h c) (cells_of g)
 cells_inside w h [] e = tt
 cells_inside w h (p ∷ g) e =
-    let a = and_true (nat_lt p.cell.x w && nat_lt p.cell.y h) (fits_grid w h g) e in
-    let b = and_true (nat_lt p.cell.x w) (nat_lt p.cell.y h) a.0 in
+    let a = and_parts (nat_lt p.cell.x w && nat_lt p.cell.y h) (fits_grid w h g) e in
+    let b = and_parts (nat_lt p.cell.x w) (nat_lt p.cell.y h) a.0 in
     ((grind (arith, nat_tests, b.0), grind (arith, nat_tests, b.1)), cells_inside w h g a.1)
 
 pub preimage_is_listed : GriddedAreListed → (m : GridMap) (g h : List Point) → IsGridded g → IsPreimage m g h → IsIn h (preimages m g)

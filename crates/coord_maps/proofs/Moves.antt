@@ -1,11 +1,10 @@
 -- What the collapse keeps: it moves no line past another.
-use Rattle.std.proofs.Common.{◌≡◌, ℕ, ◌+◌, ◌<◌, ◌≤◌, Bool, true, false, List, [], ◌∷◌, length, get_or, set, take, refl, sym, ap, ◌∙◌, subst, arith}
-use Rattle.std.specs.Prelude.{◌&&◌, not, map, nat_lt, nat_le, All, IsTrue}
+use Rattle.std.proofs.Common.{◌≡◌, ℕ, ◌+◌, ◌<◌, ◌≤◌, Bool, true, false, List, [], ◌∷◌, length, get_or, set, take, refl, sym, ap, ◌∙◌, arith}
+use Rattle.std.specs.Prelude.{◌&&◌, not, map, nat_lt, nat_le}
 use Rattle.std.specs.List.{list_all}
 use Rattle.std.proofs.lemmas.Bool.Decides.{nat_tests}
 use Rattle.std.proofs.lemmas.List.{length-map, take_more, take_more_set, map-append}
-use Rattle.std.proofs.lemmas.List.Elements.{All-map}
-use Rattle.patterns.proofs.Booleans.{and_true, both_true}
+use Rattle.std.proofs.lemmas.Bool.{and_parts, and_from}
 use Rattle.gridded.specs.declared.cell.Cell.{Cell}
 use Rattle.gridded.specs.Grids.{Point, points, letter_of, may_follow, is_consistent, IsGridded, FitTogether}
 use Rattle.gridded.specs.Orders.{letters_of, cells_of}
@@ -38,19 +37,19 @@ module _ (f : Cell → Cell) (k : KeepsOrder f) where
 
   follows_moved : (p q : Point) → may_follow p q ≡ true → may_follow (moved f p) (moved f q) ≡ true
   follows_moved p q e =
-      let a = and_true (nat_le p.cell.x q.cell.x) (not (nat_lt p.letter q.letter && nat_lt q.cell.y p.cell.y) && not (nat_lt q.letter p.letter && nat_lt p.cell.y q.cell.y)) e in
-      let b = and_true (not (nat_lt p.letter q.letter && nat_lt q.cell.y p.cell.y)) (not (nat_lt q.letter p.letter && nat_lt p.cell.y q.cell.y)) a.1 in
-      both_true _ _ (k.columns p.cell q.cell a.0) (both_true _ _
+      let a = and_parts (nat_le p.cell.x q.cell.x) (not (nat_lt p.letter q.letter && nat_lt q.cell.y p.cell.y) && not (nat_lt q.letter p.letter && nat_lt p.cell.y q.cell.y)) e in
+      let b = and_parts (not (nat_lt p.letter q.letter && nat_lt q.cell.y p.cell.y)) (not (nat_lt q.letter p.letter && nat_lt p.cell.y q.cell.y)) a.1 in
+      and_from _ _ (k.columns p.cell q.cell a.0) (and_from _ _
       (never (nat_lt p.letter q.letter) (nat_lt q.cell.y p.cell.y) (nat_lt (f q.cell).y (f p.cell).y) (k.rows q.cell p.cell) b.0)
       (never (nat_lt q.letter p.letter) (nat_lt p.cell.y q.cell.y) (nat_lt (f p.cell).y (f q.cell).y) (k.rows p.cell q.cell) b.1))
 
   all_follow_moved : (p : Point) (g : List Point) → list_all (λ q. may_follow p q) g ≡ true → list_all (λ q. may_follow (moved f p) q) (move_cells f g) ≡ true
   all_follow_moved p [] e = refl
-  all_follow_moved p (q ∷ g) e = let a = and_true (may_follow p q) (list_all (λ r. may_follow p r) g) e in both_true _ _ (follows_moved p q a.0) (all_follow_moved p g a.1)
+  all_follow_moved p (q ∷ g) e = let a = and_parts (may_follow p q) (list_all (λ r. may_follow p r) g) e in and_from _ _ (follows_moved p q a.0) (all_follow_moved p g a.1)
 
   consistent_moved : (g : List Point) → is_consistent g ≡ true → is_consistent (move_cells f g) ≡ true
   consistent_moved [] e = refl
-  consistent_moved (p ∷ g) e = let a = and_true (list_all (λ q. may_follow p q) g) (is_consistent g) e in both_true _ _ (all_follow_moved p g a.0) (consistent_moved g a.1)
+  consistent_moved (p ∷ g) e = let a = and_parts (list_all (λ q. may_follow p q) g) (is_consistent g) e in and_from _ _ (all_follow_moved p g a.0) (consistent_moved g a.1)
 
 pub consistent_collapse : (m : GridMap) (g : List Point) → is_consistent g ≡ true → is_consistent (collapse m g) ≡ true
 consistent_collapse m g e = consistent_moved (old_cell m) (old_cell_keeps m) g e

@@ -5,20 +5,16 @@ use Rattle.std.specs.List.{list_all, list_any, AllByRecursion}
 use Rattle.std.proofs.lemmas.Bool.Decides.{nat_tests, Decides-eqb}
 use Rattle.std.proofs.lemmas.List.{length-map, length-take-le, take_more, take_more_set}
 use Rattle.std.proofs.lemmas.List.Elements.{All-from_recursion, recursion_from_All}
-use Rattle.patterns.proofs.Booleans.{and_true, both_true, and_end}
+use Rattle.std.proofs.lemmas.Bool.{and_parts, and_from}
+use Rattle.std.proofs.Math.Bool.{and-true}
 use Rattle.gridded.specs.declared.cell.Cell.{Cell}
 use Rattle.gridded.specs.Grids.{Point, points, letter_of, may_follow, is_consistent, IsGridded, FitTogether}
 use Rattle.gridded.specs.Orders.{letters_of, cells_of}
 use Rattle.gridded.specs.PointLaws.{letters_of-points, length-points}
 use Rattle.gridded.proofs.Moved.{so_is_true}
+use Rattle.gridded.proofs.PartPlaces.{points-push}
 use Rattle.coord_maps.specs.Preimages.{may_come, put, placed_points, point_at}
 use Rattle.patterns.specs.Words.{has_no_repeats}
-
-points-push : (letters : List ℕ) (cells : List Cell) (l : ℕ) (c : Cell) → length letters ≡ length cells → points (letters ++ l ∷ []) (cells ++ c ∷ []) ≡ points letters cells ++ record { letter = l; cell = c } ∷ []
-points-push [] [] l c e = refl
-points-push [] (d ∷ cells) l c e = absurd (omega arith)
-points-push (k ∷ letters) [] l c e = absurd (omega arith)
-points-push (k ∷ letters) (d ∷ cells) l c e = ap (λ r. record { letter = k; cell = d } ∷ r) (points-push letters cells l c (omega arith))
 
 letters_as_long : (g : List Point) → length (letters_of g) ≡ length g
 letters_as_long g = length-map g letter_of
@@ -36,8 +32,8 @@ placed-more g cells n d h k =
     rw (take_more (letters_of g) n 0 (rw (letters_as_long g) h), take_more cells n d k) (points-push (take n (letters_of g)) (take n cells) (get_or (letters_of g) n 0) (get_or cells n d) (takes_as_long g cells n (omega arith) (omega arith)))
 
 -- ---- whether a point may come
-come-push : (s : List Point) (p q : Point) → may_come (s ++ p ∷ []) q ≡ (may_come s q && may_follow p q)
-come-push [] p q = and_end (may_follow p q)
+pub come-push : (s : List Point) (p q : Point) → may_come (s ++ p ∷ []) q ≡ (may_come s q && may_follow p q)
+come-push [] p q = and-true (may_follow p q)
 come-push (r ∷ s) p q = rw (come-push s p q) (regrouped (may_follow r q) (may_come s q) (may_follow p q))
   where
     regrouped : (a b c : Bool) → (a && (b && c)) ≡ (a && b && c)
@@ -85,21 +81,21 @@ pub letters_differ : (ls : List ℕ) (i j : ℕ) → has_no_repeats ls ≡ true 
 letters_differ [] i j d h k e = absurd (omega arith)
 letters_differ (l ∷ ls) i zero d h k e = absurd (omega arith)
 letters_differ (l ∷ ls) zero (suc j) d h k e =
-    let other = none_at (λ y. l == y) ls j (and_true (not (list_any (λ y. l == y) ls)) (has_no_repeats ls) d).0 (omega arith) in
+    let other = none_at (λ y. l == y) ls j (and_parts (not (list_any (λ y. l == y) ls)) (has_no_repeats ls) d).0 (omega arith) in
     let same = (Decides-eqb l (get_or ls j 0)).1 e in
     (let clash : true ≡ false = sym same ∙ other in cc)
-letters_differ (l ∷ ls) (suc i) (suc j) d h k e = letters_differ ls i j (and_true (not (list_any (λ y. l == y) ls)) (has_no_repeats ls) d).1 (omega arith) (omega arith) e
+letters_differ (l ∷ ls) (suc i) (suc j) d h k e = letters_differ ls i j (and_parts (not (list_any (λ y. l == y) ls)) (has_no_repeats ls) d).1 (omega arith) (omega arith) e
 
 pub consistent-push : (s : List Point) (q : Point) → is_consistent s ≡ true → may_come s q ≡ true → is_consistent (s ++ q ∷ []) ≡ true
 consistent-push [] q e f = refl
 consistent-push (p ∷ s) q e f =
-    let a = and_true (list_all (λ r. may_follow p r) s) (is_consistent s) e in
-    let b = and_true (may_follow p q) (may_come s q) f in
-    both_true _ _ (all_and_last (λ r. may_follow p r) s q a.0 b.0) (consistent-push s q a.1 b.1)
+    let a = and_parts (list_all (λ r. may_follow p r) s) (is_consistent s) e in
+    let b = and_parts (may_follow p q) (may_come s q) f in
+    and_from _ _ (all_and_last (λ r. may_follow p r) s q a.0 b.0) (consistent-push s q a.1 b.1)
   where
     all_and_last : (t : Point → Bool) (s : List Point) (q : Point) → list_all t s ≡ true → t q ≡ true → list_all t (s ++ q ∷ []) ≡ true
     all_and_last t [] q e f = rw f refl
-    all_and_last t (r ∷ s) q e f = let a = and_true (t r) (list_all t s) e in both_true _ _ a.0 (all_and_last t s q a.1 f)
+    all_and_last t (r ∷ s) q e f = let a = and_parts (t r) (list_all t s) e in and_from _ _ a.0 (all_and_last t s q a.1 f)
 
 -- ---- the point at a place
 pub letter_at : (g : List Point) (n : ℕ) → n < length g → get_or (letters_of g) n 0 ≡ (point_at g n).letter

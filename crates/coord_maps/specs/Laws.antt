@@ -1,6 +1,5 @@
 -- Laws of collapse, preimages and stretch, as facts that clauses can name.
 use Rattle.std.specs.Prelude.{◌≡◌, ◌↔◌, ℕ, true, List}
-use Rattle.patterns.specs.Parts.{IsIn, NoRepeats}
 use Rattle.gridded.specs.Grids.{Point, is_consistent, IsGridded, Holds}
 use Rattle.gridded.specs.Laws.{IsGriddedOf}
 use Rattle.tiling_core.specs.Tiles.{Tiles, IsTiling, is_member}
@@ -10,6 +9,7 @@ use Rattle.coord_maps.specs.LineMaps.{new_lines}
 use Rattle.coord_maps.specs.GridMaps.{IsGridMap, collapse, fits_new}
 use Rattle.coord_maps.specs.Preimages.{preimages}
 use Rattle.coord_maps.specs.Stretches.{stretch, IsMapOf}
+use Rattle.lists.specs.Members.{IsIn, NoRepeats}
 
 -- h is consistent in the new grid, and collapses to g
 pub record IsPreimage (m : GridMap) (g h : List Point) : Type 0 where

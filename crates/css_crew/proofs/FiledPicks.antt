@@ -7,9 +7,8 @@ use Rattle.css_domain.specs.Ledgers.{Books, classes}
 use Rattle.css_domain.specs.LedgerFacts.{IsLedger}
 use Rattle.css_domain.specs.Entries.{Entry, IsPickOf, Picked, picked_children}
 use Rattle.css_domain.specs.FiledSpecs.{IsFiledSpec}
-use Rattle.css_domain.proofs.Determined.{IsIn-slice_get}
-use Rattle.css_domain.proofs.Finding.{place_of, zip_back}
 use Rattle.css_prune.proofs.Picks.{picked_is_valid}
+use Rattle.lists.proofs.Places.{IsIn-slice_get, place_of, zip_back}
 
 pub picked_is_filed : {C R : Type 0} (D : Meaning C R) → ((c : C) → D.same c c ≡ true) → ((a b : C) → D.same a b ≡ true → a ≡ b) → (l : Books C R) (entries : List (Entry C R)) → IsLedger D l → slice_get (classes D l) 0 ≡ Some l.root → Picked D l 0 entries → IsFiledSpec D l entries
 picked_is_filed {C} {R} D own exact l entries is first picked =

@@ -4,35 +4,27 @@ use Rattle.std.specs.Prelude.{flat_map, slice_get, Option, Some, None, sum_by}
 use Rattle.std.specs.List.{range_with_len}
 use Rattle.std.proofs.lemmas.List.{map-append}
 use Rattle.std.proofs.lemmas.Option.{slice_get_within}
-use Rattle.patterns.specs.Parts.{IsIn, NoRepeats}
-use Rattle.lists.specs.Members.IsIn.{here, later}
-use Rattle.patterns.proofs.Lists.{IsIn-append_cases, IsIn-map}
-use Rattle.patterns.proofs.NoRepeat.{NoRepeats-range_with_len}
+use Rattle.lists.proofs.Members.{none_in, IsIn-append_cases, IsIn-map, only_in}
+use Rattle.lists.proofs.Numbers.{less_or_whole}
+use Rattle.lists.proofs.Added.{grows}
+use Rattle.lists.proofs.Places.{get_left, take_whole}
+use Rattle.lists.proofs.Ranges.{range_more, NoRepeats-range_with_len}
+use Rattle.lists.specs.Members.{IsIn, NoRepeats}
 use Rattle.css_domain.specs.Meanings.{Meaning}
 use Rattle.css_domain.specs.Ledgers.{Books, filings, classes, done, after_filings, with_filing, without, new_books}
 use Rattle.css_domain.specs.LedgerFacts.{IsLedger}
 use Rattle.css_domain.specs.Reasons.{AreFilingsComplete, RootStands, Stops, EndsFor, Alone}
-use Rattle.css_domain.proofs.Ways.{less_or_whole}
-use Rattle.css_domain.proofs.Growing.{grows}
 use Rattle.css_domain.proofs.Filings.{filings_more, classes_more, before_more, rules_of_filings, length-filings, firsts}
 use Rattle.css_domain.proofs.Classes.{done_within}
-use Rattle.css_domain.proofs.Finding.{get_left, take_whole, range_more}
 use Rattle.css_crew.specs.declared.reason.Reason.{Reason as Answer}
 use Rattle.css_crew.specs.declared.reason.Reason.TheVariants.{Found as IsFound, Budget as IsBudget, Exhausted as IsExhausted}
 use Rattle.css_crew.specs.Ways.{IsOnTheWay, IsNext, FilesNone, Goes, reason_as}
-
-none_in : {X : Type 0} {x : X} → IsIn x [] → ⊥
-none_in h = elim h [ ]
 
 pub both : {b : Bool} → b ≡ false → b ≡ true → ⊥
 both e f = cc
 
 pair_of : {X Y : Type 0} (x y : X × Y) → x ≡ y → (x.0 ≡ y.0) × (x.1 ≡ y.1)
 pair_of x y e = (ap (λ p. p.0) e, ap (λ p. p.1) e)
-
-only_one : {X : Type 0} (x y : X) → IsIn x (y ∷ []) → x ≡ y
-only_one _ y (here) = refl
-only_one x y (later _ e) = elim e [ ]
 
 module _ {C R : Type 0} (D : Meaning C R) where
   pub begun : (root : C) (budget rulebook : ℕ) → IsOnTheWay D root budget rulebook (new_books root budget rulebook)
@@ -126,7 +118,7 @@ module _ {C R : Type 0} (D : Meaning C R) where
                 let first : IsIn m (done l) = subst (λ xs. IsIn m xs) (firsts l.rules l.journal) (IsIn-map (λ (f : ℕ × List R). f.0) j) in
                 way.complete.complete m rules c j (left m c (done_within D l is m first) e))
                 (λ j.
-                let p = pair_of (m, rules) (length l.journal, next.rules) (only_one (m, rules) (length l.journal, next.rules) j) in
+                let p = pair_of (m, rules) (length l.journal, next.rules) (only_in j) in
                 let small = slice_get_within (classes D l) (length l.journal) next.class next.at in
                 let at = left (length l.journal) c small (ap (slice_get (classes D (with_filing l (length l.journal) next.rules))) (sym p.0) ∙ e) in
                 let same : next.class ≡ c = (let a = next.at in cc) in

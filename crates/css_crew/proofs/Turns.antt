@@ -2,19 +2,19 @@
 use Rattle.std.proofs.Common.{◌≡◌, ℕ, zero, suc, ◌+◌, ◌<◌, ◌≤◌, Bool, true, false, cond, List, [], ◌∷◌, ◌++◌, length, refl, sym, ap, subst, ◌∙◌, ⊎_elim, arith}
 use Rattle.std.specs.Prelude.{◌&&◌, ◌==◌, not, filter, if◌then◌else◌}
 use Rattle.std.specs.List.{range_with_len}
-use Rattle.std.proofs.lemmas.Bool.{eqb-true}
+use Rattle.std.proofs.lemmas.Bool.{eqb-true, eq-eqb, cases_lt, and_parts, and_from}
 use Rattle.std.proofs.lemmas.List.{length-map}
-use Rattle.patterns.specs.Parts.{IsIn}
 use Rattle.lists.specs.Members.IsIn.{here}
-use Rattle.patterns.proofs.Booleans.{and_true, both_true}
-use Rattle.patterns.proofs.NoRepeat.{IsIn-range_with_len, in_range_with_len}
+use Rattle.lists.proofs.Numbers.{less_or_whole}
+use Rattle.lists.proofs.Tests.{all_pass}
+use Rattle.lists.specs.Members.{IsIn}
+use Rattle.lists.proofs.Ranges.{IsIn-range_with_len, in_range_with_len}
 use Rattle.css_domain.specs.Meanings.{Meaning}
 use Rattle.css_domain.specs.Ledgers.{Books, classes, done, is_among, fresh, work, Claimed, claimed, is_all_done, with_filing, with_work, without}
 use Rattle.css_domain.specs.Ledgers.Claimed.{Finished, Spent, Work, Idle}
-use Rattle.css_domain.proofs.Ways.{less_or_whole}
 use Rattle.std.specs.Ordering.{nat_cmp}
 use Rattle.sequences.specs.Ascending.{insert_new}
-use Rattle.css_domain.proofs.Finding.{among_from_in, in_from_among, same_number, there_or_past, each_by}
+use Rattle.css_domain.proofs.Finding.{among_from_in, in_from_among}
 
 -- ---- the first number that passes
 pub first_work : (q : ℕ → Bool) (a m n : ℕ) → work (filter q (range_with_len a m)) ≡ Work n → (a ≤ n) × (n < a + m) × (q n ≡ true) × ((i : ℕ) → a ≤ i → i < n → q i ≡ false)
@@ -74,13 +74,13 @@ module _ {C R : Type 0} (D : Meaning C R) (l : Books C R) (out : l.out ≡ []) (
   claimed_work n e =
       let w = by_work (is_all_done D l) (length l.out + length l.journal == l.budget) (work (fresh D l)) n e in
       let f = first_work (λ i. not (is_among i (done l)) && not (is_among i l.out)) 0 (length (classes D l)) n w.2 in
-      let passes = and_true (not (is_among n (done l))) (not (is_among n l.out)) f.2 in
+      let passes = and_parts (not (is_among n (done l))) (not (is_among n l.out)) f.2 in
       let past = not_below n passes.0 in
       let first = not_above n f.3 in
-      (omega (arith, past, first), omega (arith, f.1), λ t. absurd (let a = w.0 in cc), λ s. absurd (let b = w.1 in let k = same_number (length l.out + length l.journal) l.budget (omega (arith, s, as_many, ap length out)) in cc))
+      (omega (arith, past, first), omega (arith, f.1), λ t. absurd (let a = w.0 in cc), λ s. absurd (let b = w.1 in let k = eq-eqb (length l.out + length l.journal) l.budget (omega (arith, s, as_many, ap length out)) in cc))
     where
       not_below : (n : ℕ) → not (is_among n (done l)) ≡ true → length l.journal ≤ n
-      not_below n e = ⊎_elim {C = length l.journal ≤ n} (λ less. absurd (let t = (among_range n).1 less in let g : not (is_among n (done l)) ≡ false = rw t refl in cc)) (λ p. p) (there_or_past n (length l.journal))
+      not_below n e = ⊎_elim {C = length l.journal ≤ n} (λ less. absurd (let t = (among_range n).1 less in let g : not (is_among n (done l)) ≡ false = rw t refl in cc)) (λ p. p) (cases_lt n (length l.journal))
 
       not_above : (n : ℕ) → ((i : ℕ) → 0 ≤ i → i < n → (not (is_among i (done l)) && not (is_among i l.out)) ≡ false) → n ≤ length l.journal
       not_above n f =
@@ -88,9 +88,9 @@ module _ {C R : Type 0} (D : Meaning C R) (l : Books C R) (out : l.out ≡ []) (
           (λ less.
           absurd (let g = f (length l.journal) (omega arith) less in
           let h : not (is_among (length l.journal) (done l)) ≡ true = free (is_among (length l.journal) (done l)) refl in
-          let b = both_true (not (is_among (length l.journal) (done l))) (not (is_among (length l.journal) l.out)) h (not_out (length l.journal)) in cc))
+          let b = and_from (not (is_among (length l.journal) (done l))) (not (is_among (length l.journal) l.out)) h (not_out (length l.journal)) in cc))
           (λ p. p)
-          (there_or_past (length l.journal) n)
+          (cases_lt (length l.journal) n)
         where
           free : (b : Bool) → is_among (length l.journal) (done l) ≡ b → not b ≡ true
           free false e = refl
@@ -109,7 +109,7 @@ module _ {C R : Type 0} (D : Meaning C R) (l : Books C R) (out : l.out ≡ []) (
   claimed_idle e =
       let w = by_idle (is_all_done D l) (length l.out + length l.journal == l.budget) (work (fresh D l)) e in
       let f = none_work (λ i. not (is_among i (done l)) && not (is_among i l.out)) 0 (length (classes D l)) w.1 in
-      each_by (λ n. is_among n (done l)) (range_with_len 0 (length (classes D l))) (λ n i. let r = IsIn-range_with_len 0 (length (classes D l)) n i in known (is_among n (done l)) (not (is_among n l.out)) (not_out n) (f n (omega arith) (omega (arith, r.1))))
+      all_pass (λ n. is_among n (done l)) (range_with_len 0 (length (classes D l))) (λ n i. let r = IsIn-range_with_len 0 (length (classes D l)) n i in known (is_among n (done l)) (not (is_among n l.out)) (not_out n) (f n (omega arith) (omega (arith, r.1))))
     where
       known : (b c : Bool) → c ≡ true → (not b && c) ≡ false → b ≡ true
       known true c e f = refl
@@ -118,7 +118,7 @@ module _ {C R : Type 0} (D : Meaning C R) (l : Books C R) (out : l.out ≡ []) (
   -- what is claimed and filed is filed
   pub claimed_filed : (n : ℕ) (rules : List R) → with_filing (with_work l (Work n)) n rules ≡ with_filing l n rules
   claimed_filed n rules =
-      let o : without n (insert_new nat_cmp n l.out) ≡ without n l.out = ap (λ xs. without n (insert_new nat_cmp n xs)) out ∙ rw (same_number n n refl) refl ∙ sym (ap (without n) out) in
+      let o : without n (insert_new nat_cmp n l.out) ≡ without n l.out = ap (λ xs. without n (insert_new nat_cmp n xs)) out ∙ rw (eq-eqb n n refl) refl ∙ sym (ap (without n) out) in
       λ i. record { root = l.root; budget = l.budget; rulebook = l.rulebook; rules = l.rules ++ rules; journal = l.journal ++ (n, length rules) ∷ []; out = o i }
 
   pub claimed_out : (n : ℕ) → IsIn n (with_work l (Work n)).out

@@ -3,17 +3,20 @@ use Rattle.std.proofs.Common.{◌≡◌, ℕ, zero, suc, ◌<◌, true, List, le
 use Rattle.std.specs.Prelude.{slice_get, Some}
 use Rattle.std.specs.List.{list_any}
 use Rattle.std.proofs.lemmas.Option.{slice_get_within}
-use Rattle.patterns.specs.Parts.{IsIn}
-use Rattle.patterns.proofs.NoRepeat.{IsIn-flat_map, in_range_with_len}
 use Rattle.css_domain.specs.Meanings.{Meaning}
 use Rattle.css_domain.specs.Ledgers.{Books, filings, done, classes, is_all_done, is_among}
 use Rattle.css_domain.specs.LedgerFacts.{IsLedger}
 use Rattle.css_domain.specs.Entries.{Entry, ValidSpec}
-use Rattle.css_domain.proofs.Determined.{IsIn-slice_get}
-use Rattle.css_domain.proofs.Ways.{less_or_whole}
 use Rattle.css_domain.proofs.Filings.{rules_of_filings, block_there}
-use Rattle.css_domain.proofs.Finding.{found_at, place_of, each_passes, in_from_among, zero_or_more}
-use Rattle.css_domain.proofs.SpecStands.{number, root_there, child_there, born, first_class}
+use Rattle.css_domain.proofs.Finding.{in_from_among}
+use Rattle.css_domain.proofs.SpecStands.{number, root_there, born, first_class}
+use Rattle.css_domain.proofs.Within.{child_there}
+use Rattle.lists.proofs.Places.{IsIn-slice_get, found_at, place_of}
+use Rattle.lists.proofs.Numbers.{less_or_whole, zero_or_more}
+use Rattle.lists.proofs.Tests.{each_passes}
+use Rattle.lists.specs.Members.{IsIn}
+use Rattle.lists.proofs.Members.{IsIn-flat_map}
+use Rattle.lists.proofs.Ranges.{in_range_with_len}
 
 -- Q is kept from a class to the children of its complete filing, which Fits tells
 module _ {C R : Type 0} (D : Meaning C R) (own : (c : C) → D.same c c ≡ true) (exact : (a b : C) → D.same a b ≡ true → a ≡ b) (l : Books C R) (is : IsLedger D l) (all : is_all_done D l ≡ true) (Q : C → Type 0) (Fits : C → List R → Type 0) (fitting : (n : ℕ) (rules : List R) (c : C) → Q c → IsIn (n, rules) (filings l.rules l.journal) → slice_get (classes D l) n ≡ Some c → Fits c rules) (onward : (f : List R) (r : R) (c d : C) → Q c → Fits c f → IsIn r f → IsIn d (D.children r) → Q d) (entries : List (Entry C R)) (valid : ValidSpec D entries l.root) (root : Q l.root) (by : (e : Entry C R) → IsIn e entries → (f : List R) → Fits e.class f → IsIn e.rule f) where
@@ -32,7 +35,7 @@ module _ {C R : Type 0} (D : Meaning C R) (own : (c : C) → D.same c c ≡ true
       let n = number D own exact l is e.class in
       let at : slice_get (classes D l) n ≡ Some e.class = found_at D.same exact e.class (classes D l) there in
       let small = slice_get_within (classes D l) n e.class at in
-      let among = each_passes (λ m. is_among m (done l)) (in_range_with_len 0 (length (classes D l)) n (omega arith) (omega (arith, small))) all in
+      let among = each_passes (λ m. is_among m (done l)) all (in_range_with_len 0 (length (classes D l)) n (omega arith) (omega (arith, small))) in
       let block = block_there l.rules l.journal n (in_from_among n (done l) among) in
       let fits = fitting n block.0 e.class q block.1 at in
       let inside = by e h block.0 fits in

@@ -1,20 +1,19 @@
 -- What goes from a class to the children of its filing holds of all classes of a ledger, by the order of its filings.
-use Rattle.std.proofs.Common.{◌≡◌, ℕ, zero, suc, ◌<◌, ◌≤◌, List, [], ◌∷◌, ◌++◌, length, take, drop, sym, ap, subst, ◌∙◌, ⊎_elim, arith}
+use Rattle.std.proofs.Common.{◌≡◌, ℕ, zero, suc, ◌<◌, ◌≤◌, List, [], ◌∷◌, ◌++◌, length, take, drop, sym, ap, subst, ◌∙◌, ⊎_elim, arith, append-nil}
 use Rattle.std.specs.Prelude.{flat_map, slice_get, slice_index, Some}
 use Rattle.std.proofs.lemmas.List.{take-append-drop}
 use Rattle.std.proofs.lemmas.Grind.{flat_map-append}
 use Rattle.std.proofs.lemmas.Option.{slice_get_within}
-use Rattle.patterns.specs.Parts.{IsIn}
 use Rattle.lists.specs.Members.IsIn.{here, later}
-use Rattle.patterns.proofs.NoRepeat.{from_IsIn-flat_map}
-use Rattle.css_domain.specs.Added.{with_all_new}
+use Rattle.lists.specs.Added.{with_all_new}
+use Rattle.lists.proofs.Places.{IsIn-slice_get, at_place, get-map, get_left, index_is, place_of, take_next, take_whole}
+use Rattle.lists.proofs.Added.{grows, all_new_append, in_grown}
+use Rattle.lists.specs.Members.{IsIn}
+use Rattle.lists.proofs.Members.{from_IsIn-flat_map}
 use Rattle.css_domain.specs.Meanings.{Meaning}
 use Rattle.css_domain.specs.Ledgers.{Books, filings, done, classes, after_filings}
 use Rattle.css_domain.specs.LedgerFacts.{IsLedger}
-use Rattle.css_domain.proofs.Determined.{IsIn-slice_get, at_place}
-use Rattle.css_domain.proofs.Growing.{grows, all_new_append, in_grown}
 use Rattle.css_domain.proofs.Filings.{rules_of_filings, classes_by_rules, children_of_filings, length-filings, firsts, sizes, block_there}
-use Rattle.css_domain.proofs.Finding.{append_nothing, get-map, get_left, index_is, place_of, take_next, take_whole}
 
 module _ {C R : Type 0} (D : Meaning C R) (l : Books C R) (is : IsLedger D l) where
   abbrev blocks : List (ℕ × List R)
@@ -35,7 +34,7 @@ module _ {C R : Type 0} (D : Meaning C R) (l : Books C R) (is : IsLedger D l) wh
   known_next : (k : ℕ) (f : ℕ × List R) → slice_get blocks k ≡ Some f → known (suc k) ≡ with_all_new D.same (known k) (shown f)
   known_next k f at =
       ap (λ fs. with_all_new D.same (l.root ∷ []) (flat_map shown fs)) (take_next blocks k f at)
-      ∙ ap (λ cs. with_all_new D.same (l.root ∷ []) cs) (flat_map-append shown (take k blocks) (f ∷ []) ∙ ap (λ cs. flat_map shown (take k blocks) ++ cs) (append_nothing (shown f)))
+      ∙ ap (λ cs. with_all_new D.same (l.root ∷ []) cs) (flat_map-append shown (take k blocks) (f ∷ []) ∙ ap (λ cs. flat_map shown (take k blocks) ++ cs) (append-nil (shown f)))
       ∙ all_new_append D.same (l.root ∷ []) (flat_map shown (take k blocks)) (shown f)
 
   -- the known classes are the first classes

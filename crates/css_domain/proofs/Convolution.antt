@@ -7,14 +7,15 @@ use Rattle.std.proofs.lemmas.List.Sums.{sum_by-cons, sum_by-append}
 use Rattle.std.proofs.lemmas.List.Elements.{filter-append}
 use Rattle.std.proofs.lemmas.List.Concat.{flat_map-cons}
 use Rattle.std.proofs.Math.Nat.{mul-zero, mul-add}
-use Rattle.patterns.specs.Parts.{IsIn}
 use Rattle.lists.specs.Members.IsIn.{here, later}
-use Rattle.patterns.specs.Words.{words}
-use Rattle.patterns.proofs.NoRepeat.{IsIn-range_with_len}
 use Rattle.lists.specs.Products.{product_count}
+use Rattle.lists.proofs.Ranges.{range_split, IsIn-range_with_len}
+use Rattle.lists.proofs.Counts.{sum_by_agrees}
+use Rattle.lists.specs.Members.{IsIn}
+use Rattle.lists.specs.Words.{words}
 use Rattle.css_domain.specs.Shapes.{product_at, combine}
 use Rattle.css_domain.specs.declared.shape.Shape.TheVariants.{Product}
-use Rattle.css_domain.proofs.Ways.{sum_by_agrees, sum-cons}
+use Rattle.css_domain.proofs.Ways.{sum-cons}
 
 -- the lists whose sum is n
 abbrev with_sum : ℕ → List (List ℕ) → List (List ℕ)
@@ -45,10 +46,6 @@ module _ (c : ℕ → ℕ) (cs : List (ℕ → ℕ)) (n : ℕ) (ws : List (List 
   by_first (x ∷ xs) =
       rw (flat_map-cons (λ (x : ℕ). map (λ w. x ∷ w) ws) x xs, filter-append (λ w. sum w == n) (map (λ w. x ∷ w) ws) (flat_map (λ x. map (λ w. x ∷ w) ws) xs))
       (sum_by-append (product_at (c ∷ cs)) (with_sum n (map (λ w. x ∷ w) ws)) (with_sum n (flat_map (λ x. map (λ w. x ∷ w) ws) xs)) ∙ rw (by_first xs) (sym (sum_by-cons (λ x. sum_by (product_at (c ∷ cs)) (with_sum n (map (λ w. x ∷ w) ws))) x xs)))
-
-range_split : (a m k : ℕ) → range_with_len a (m + k) ≡ range_with_len a m ++ range_with_len (a + m) k
-range_split a zero k = let e : 0 + k ≡ k = omega arith in let d : a + 0 ≡ a = omega arith in rw (e, d) refl
-range_split a (suc m) k = let e : suc m + k ≡ suc (m + k) = omega arith in let d : a + suc m ≡ a + 1 + m = omega arith in rw (e, d) (ap (λ xs. a ∷ xs) (range_split (a + 1) m k))
 
 sum_by_zero : (f : ℕ → ℕ) (xs : List ℕ) → ((x : ℕ) → IsIn x xs → f x ≡ 0) → sum_by f xs ≡ 0
 sum_by_zero f [] h = refl

@@ -3,28 +3,13 @@ use Rattle.std.proofs.Common.{◌≡◌, ℕ, zero, suc, ◌<◌, Bool, true, Li
 use Rattle.std.specs.Prelude.{IsTrue, map, slice_get, slice_index, Some}
 use Rattle.std.proofs.lemmas.List.{length-map}
 use Rattle.std.proofs.lemmas.Option.{slice_get-map}
-use Rattle.patterns.specs.Parts.{IsIn}
-use Rattle.lists.specs.Members.IsIn.{here, later}
+use Rattle.lists.proofs.Places.{IsIn-slice_get, get_index, at_place}
+use Rattle.lists.proofs.Numbers.{less_or_whole}
+use Rattle.lists.specs.Members.{IsIn}
 use Rattle.css_domain.specs.Shapes.{combine}
 use Rattle.css_domain.specs.Meanings.{Meaning}
 use Rattle.css_domain.specs.Entries.{Entry, IsNamed, IsLinked, AllHold, AreCounts, NoneOfLength0, class_counts, CountsAreDetermined, ClassCountsCombine}
-use Rattle.css_domain.proofs.Ways.{SlotsAgree, combine_agrees, less_or_whole}
-
--- what stands at a place is in the list
-pub IsIn-slice_get : {X : Type 0} (xs : List X) (i : ℕ) (x : X) → slice_get xs i ≡ Some x → IsIn x xs
-IsIn-slice_get [] i x h = absurd cc
-IsIn-slice_get {X} (y ∷ xs) zero x h = let e : y ≡ x = cc in subst (λ (z : X). IsIn z (y ∷ xs)) e here
-IsIn-slice_get (y ∷ xs) (suc i) x h = later y (IsIn-slice_get xs i x h)
-
-pub get_index : (ks : List ℕ) (slot k : ℕ) → slice_get ks slot ≡ Some k → (slice_index ks slot ≡ k) × (slot < length ks)
-get_index [] slot k h = absurd cc
-get_index (j ∷ ks) zero k h = ((let e : j ≡ k = cc in e), omega arith)
-get_index (j ∷ ks) (suc slot) k h = let p = get_index ks slot k h in (p.0, omega (arith, p.1))
-
-pub at_place : {X : Type 0} (xs : List X) (i : ℕ) → i < length xs → (x : X) × (slice_get xs i ≡ Some x)
-at_place [] i h = absurd (omega (arith, h))
-at_place (x ∷ xs) zero h = (x, refl)
-at_place (x ∷ xs) (suc i) h = at_place xs i (omega (arith, h))
+use Rattle.css_domain.proofs.Ways.{SlotsAgree, combine_agrees}
 
 module _ {C R : Type 0} (D : Meaning C R) (entries : List (Entry C R)) (linked : (e : Entry C R) → IsIn e entries → IsLinked D entries e) where
   -- the flag of a slot is that of the entry that is named

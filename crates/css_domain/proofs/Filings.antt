@@ -1,16 +1,16 @@
 -- One more filing.
 use Rattle.std.proofs.Common.{◌≡◌, ℕ, zero, suc, ◌≤◌, List, [], ◌∷◌, ◌++◌, length, take, drop, length-append, refl, sym, ap, ◌∙◌, arith}
 use Rattle.std.specs.Prelude.{map, flat_map, sum_by}
-use Rattle.patterns.specs.Parts.{IsIn}
 use Rattle.lists.specs.Members.IsIn.{here, later}
+use Rattle.lists.specs.Added.{with_all_new}
+use Rattle.lists.proofs.Added.{all_new_append}
+use Rattle.lists.proofs.Places.{take_whole}
+use Rattle.lists.specs.Members.{IsIn}
 use Rattle.std.proofs.lemmas.List.{take-append-drop, take-append-le, drop-append-le, length-drop, length-take}
 use Rattle.std.proofs.lemmas.List.Sums.{sum_by-cons, sum_by-append}
 use Rattle.std.proofs.lemmas.Grind.{flat_map-append}
-use Rattle.css_domain.specs.Added.{with_all_new}
 use Rattle.css_domain.specs.Meanings.{Meaning}
 use Rattle.css_domain.specs.Ledgers.{Books, filings, classes, with_filing, after_filings}
-use Rattle.css_domain.proofs.Growing.{all_new_append}
-use Rattle.css_domain.proofs.Finding.{take_whole}
 
 -- ---- filings
 pub filings_more : {R : Type 0} (rules more : List R) (journal : List (ℕ × ℕ)) (n : ℕ) → length rules ≡ sum_by (λ (p : ℕ × ℕ). p.1) journal → filings (rules ++ more) (journal ++ (n, length more) ∷ []) ≡ filings rules journal ++ (n, more) ∷ []

@@ -1,8 +1,9 @@
 -- The ledger machine on the records of the first list, whose classes are their own numbers.
 use Rattle.std.specs.Prelude.{◌≡◌, ℕ, zero, suc, ◌==◌, ◌<◌, true, false, List, [], ◌∷◌, flat_map, refl, length, slice_index, nat_eq}
 use Rattle.std.proofs.Common.{arith, inl, inr}
-use Rattle.patterns.specs.Parts.{IsIn}
 use Rattle.lists.specs.Members.IsIn.{here, later}
+use Rattle.lists.proofs.Members.{none_in}
+use Rattle.lists.specs.Members.{IsIn}
 use Rattle.css_domain.specs.declared.shape.Shape.TheVariants.{Union, Atom}
 use Rattle.css_domain.specs.declared.record.Record.{Record}
 use Rattle.css_domain.specs.Records.{numbers, record_words}
@@ -16,7 +17,7 @@ use Rattle.css_domain.specs.Ledgers.Event.{Claim, File, GiveBack, Recall}
 use Rattle.css_domain.specs.Reasons.{Alone, Stops}
 use Rattle.css_domain.proofs.Rows.{rec, records2, below}
 use Rattle.css_domain.proofs.StandingLaws.{stands_by}
-use Rattle.css_domain.proofs.StandingRows.{none_in, stands2, tells2, distinct2}
+use Rattle.css_domain.proofs.StandingRows.{stands2, tells2, distinct2}
 
 abbrev pub by_number : Meaning ℕ Record
 by_number = record { same = nat_eq; positive = λ c. c == 2; count = λ c n. 0; parent = λ r. r.parent; children = λ r. numbers r; shape = λ r. r.shape; holds = λ r. Unit {0}; complete = λ rulebook c rules. Unit {0} }

@@ -3,7 +3,6 @@ pub mod Ways
 pub mod Convolution
 pub mod Determined
 pub mod Finding
-pub mod Growing
 pub mod Filings
 pub mod Classes
 pub mod Within

@@ -1,37 +1,37 @@
 -- The order of entries from a root.
-use Rattle.std.proofs.Common.{◌≡◌, ℕ, zero, suc, ◌<◌, ◌≤◌, true, List, [], ◌∷◌, ◌++◌, length, append_assoc, refl, sym, ap, subst, ◌∙◌, ⊎_elim, arith}
+use Rattle.std.proofs.Common.{◌≡◌, ℕ, zero, suc, ◌<◌, ◌≤◌, true, List, [], ◌∷◌, ◌++◌, length, append_assoc, refl, sym, ap, subst, ◌∙◌, ⊎_elim, arith, append-nil}
 use Rattle.std.specs.Prelude.{nat_eq, slice_get, Some, None, Option}
 use Rattle.std.specs.List.{list_any, range_with_len}
 use Rattle.std.proofs.lemmas.List.FromFn.{length-range_with_len}
 use Rattle.std.proofs.lemmas.Option.{slice_get_within, slice_get_past}
-use Rattle.patterns.specs.Parts.{IsIn, NoRepeats}
+use Rattle.std.proofs.lemmas.Bool.{eq-eqb, cases_lt}
 use Rattle.lists.specs.Members.IsIn.{here, later}
 use Rattle.lists.specs.Members.NoRepeats.{no_element, one_more}
-use Rattle.patterns.proofs.Lists.{length-le_from_injection}
-use Rattle.patterns.proofs.NoRepeat.{in_range_with_len}
+use Rattle.lists.proofs.Places.{IsIn-slice_get, get_left, short_if_none}
+use Rattle.lists.proofs.Numbers.{less_or_whole}
+use Rattle.lists.proofs.Added.{grows, there_after, any_append, all_distinct, in_grown, added_from}
+use Rattle.lists.specs.Members.{IsIn, NoRepeats}
+use Rattle.lists.proofs.Injections.{length-le_from_injection}
+use Rattle.lists.proofs.Ranges.{in_range_with_len}
 use Rattle.css_domain.specs.Added.{with_children, order_from}
-use Rattle.css_domain.proofs.Determined.{IsIn-slice_get}
-use Rattle.css_domain.proofs.Ways.{less_or_whole}
-use Rattle.css_domain.proofs.Growing.{grows, there_after, any_append, all_distinct, in_grown, added_from}
-use Rattle.css_domain.proofs.Finding.{append_nothing, same_number, get_left, short_if_none, there_or_past}
 
 module _ (root : ℕ) (ch : ℕ → List ℕ) where
   own : (n : ℕ) → nat_eq n n ≡ true
-  own n = same_number n n refl
+  own n = eq-eqb n n refl
 
   pub next_grows : (k : ℕ) → (zs : List ℕ) × (order_from root ch (suc k) ≡ order_from root ch k ++ zs)
   next_grows k = go (slice_get (order_from root ch k) k)
     where
       go : (o : Option ℕ) → (zs : List ℕ) × (with_children ch (order_from root ch k) o ≡ order_from root ch k ++ zs)
-      go None = ([], sym (append_nothing (order_from root ch k)))
+      go None = ([], sym (append-nil (order_from root ch k)))
       go (Some c) = let g = grows nat_eq (order_from root ch k) (ch c) in (g.0, g.1)
 
   pub order_grows : (k m : ℕ) → k ≤ m → (zs : List ℕ) × (order_from root ch m ≡ order_from root ch k ++ zs)
-  order_grows k zero h = let e : k ≡ 0 = omega (arith, h) in ([], rw e (sym (append_nothing (root ∷ []))))
+  order_grows k zero h = let e : k ≡ 0 = omega (arith, h) in ([], rw e (sym (append-nil (root ∷ []))))
   order_grows k (suc m) h =
       ⊎_elim {C = (zs : List ℕ) × (order_from root ch (suc m) ≡ order_from root ch k ++ zs)}
       (λ less. let a = order_grows k m (omega (arith, less)) in let b = next_grows m in (a.0 ++ b.0, b.1 ∙ ap (λ xs. xs ++ b.0) a.1 ∙ append_assoc (order_from root ch k) a.0 b.0))
-      (λ e. ([], rw e (sym (append_nothing (order_from root ch (suc m))))))
+      (λ e. ([], rw e (sym (append-nil (order_from root ch (suc m))))))
       (less_or_whole k (suc m) h)
 
   pub order_distinct : (k : ℕ) → NoRepeats (order_from root ch k)
@@ -90,7 +90,7 @@ module _ (root : ℕ) (ch : ℕ → List ℕ) where
       let r = order_called k j d p old in
       (r.0, r.1, r.2, ap (λ xs. slice_get xs r.0) g.1 ∙ get_left (order_from root ch k) g.0 r.0 (slice_get_within (order_from root ch k) r.0 r.1 r.3) ∙ r.3, r.4))
       (λ past. go (slice_get (order_from root ch k) k) refl past h)
-      (there_or_past j (length (order_from root ch k)))
+      (cases_lt j (length (order_from root ch k)))
     where
       go : (o : Option ℕ) → slice_get (order_from root ch k) k ≡ o → length (order_from root ch k) ≤ j → slice_get (with_children ch (order_from root ch k) o) j ≡ Some d → (i : ℕ) × (c : ℕ) × (i < j) × (slice_get (order_from root ch (suc k)) i ≡ Some c) × IsIn d (ch c)
       go None e past f = absurd (let w = slice_get_within (order_from root ch k) j d f in omega (arith, w, past))

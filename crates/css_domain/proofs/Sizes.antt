@@ -4,13 +4,13 @@ use Rattle.std.specs.Prelude.{map, flat_map, slice_get}
 use Rattle.std.specs.List.{position_or_len}
 use Rattle.std.proofs.lemmas.List.{length-map}
 use Rattle.std.proofs.lemmas.List.Sums.{sum_by-cons, sum_by-append}
-use Rattle.patterns.specs.Parts.{IsIn}
 use Rattle.lists.specs.Members.IsIn.{here, later}
+use Rattle.lists.proofs.Added.{grows}
+use Rattle.lists.specs.Members.{IsIn}
 use Rattle.css_domain.specs.Records.{record_words, words_of}
 use Rattle.css_domain.specs.Meanings.{Meaning}
 use Rattle.css_domain.specs.Ledgers.{Books, filings, classes, record_of}
 use Rattle.css_domain.specs.LedgerFacts.{filing_words, IsLedger, HasSizes}
-use Rattle.css_domain.proofs.Growing.{grows}
 use Rattle.css_domain.proofs.Filings.{rules_of_filings, classes_by_rules, length-filings}
 use Rattle.css_domain.proofs.Classes.{block_class, done_within}
 use Rattle.css_domain.proofs.Within.{records_within}

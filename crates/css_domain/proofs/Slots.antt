@@ -3,7 +3,7 @@ use Rattle.std.proofs.Common.{◌≡◌, ℕ, zero, suc, ◌+◌, ◌<◌, Bool,
 use Rattle.std.specs.Prelude.{map, not, ◌&&◌, remove}
 use Rattle.std.specs.List.{list_all}
 use Rattle.std.proofs.lemmas.List.Folds.{list_all-map}
-use Rattle.patterns.proofs.Booleans.{and_regroup}
+use Rattle.lists.proofs.Tests.{and_regroup}
 
 -- no flag but that of the slot is set
 pub none_but : (xs : List (ℕ × Bool)) (slot : ℕ) → slot < length xs → list_all not (remove (map (λ c. c.1) xs) slot) ≡ (list_all (λ c. not c.1) (take slot xs) && list_all (λ c. not c.1) (drop (slot + 1) xs))

@@ -1,13 +1,10 @@
 -- A specification by rules of a ledger is a support.
-use Rattle.std.proofs.Common.{◌≡◌, ℕ, ◌<◌, Bool, true, List, [], ◌∷◌, length, refl, sym, ap, subst, ◌∙◌, arith, ⊎_elim}
+use Rattle.std.proofs.Common.{◌≡◌, ℕ, ◌<◌, true, List, [], ◌∷◌, length, refl, sym, ap, subst, ◌∙◌, arith, ⊎_elim}
 use Rattle.std.specs.Prelude.{map, flat_map, slice_get, slice_index, Some}
 use Rattle.std.specs.List.{list_any, position_or_len}
 use Rattle.std.proofs.lemmas.List.{length-map}
 use Rattle.std.proofs.lemmas.Option.{slice_get_within}
-use Rattle.patterns.specs.Parts.{IsIn, NoRepeats}
-use Rattle.patterns.proofs.Lists.{IsIn-map, from_IsIn-map}
-use Rattle.patterns.proofs.NoRepeat.{IsIn-flat_map}
-use Rattle.css_domain.specs.Records.{numbers, flags, has_same_length}
+use Rattle.css_domain.specs.Records.{numbers, has_same_length}
 use Rattle.css_domain.specs.Shapes.{is_same_length}
 use Rattle.css_domain.specs.Meanings.{Meaning}
 use Rattle.css_domain.specs.Ledgers.{Books, classes, records, record_of}
@@ -15,10 +12,15 @@ use Rattle.css_domain.specs.LedgerFacts.{IsLedger}
 use Rattle.css_domain.specs.Standing.{Ranked, RestsOn, IsSupport}
 use Rattle.css_domain.specs.Reasons.{RootStands}
 use Rattle.css_domain.specs.Entries.{Entry, ValidSpec, can_keep_length}
-use Rattle.css_domain.proofs.Determined.{IsIn-slice_get}
-use Rattle.css_domain.proofs.Growing.{grows, there_after, kept_there}
+use Rattle.css_domain.proofs.Within.{child_there, numbers_of, flags_of}
 use Rattle.css_domain.proofs.Filings.{classes_by_rules}
-use Rattle.css_domain.proofs.Finding.{found_at, get-map, map-map, index_is, place_of, distinct_by, zero_or_more}
+use Rattle.lists.proofs.Places.{IsIn-slice_get, found_at, get-map, index_is, place_of}
+use Rattle.lists.proofs.Added.{grows, kept_there}
+use Rattle.lists.proofs.Maps.{map-map}
+use Rattle.lists.proofs.Repeats.{distinct_by}
+use Rattle.lists.proofs.Numbers.{zero_or_more}
+use Rattle.lists.specs.Members.{IsIn, NoRepeats}
+use Rattle.lists.proofs.Members.{IsIn-map, from_IsIn-map}
 
 module _ {C R : Type 0} (D : Meaning C R) (own : (c : C) → D.same c c ≡ true) (exact : (a b : C) → D.same a b ≡ true → a ≡ b) (l : Books C R) (is : IsLedger D l) where
   abbrev pub number : C → ℕ
@@ -30,21 +32,12 @@ module _ {C R : Type 0} (D : Meaning C R) (own : (c : C) → D.same c c ≡ true
   pub root_number : number l.root ≡ 0
   root_number = let g = grows D.same (l.root ∷ []) (flat_map D.children l.rules) in rw (classes_by_rules D l is.all_rules, g.1) (rw (own l.root) refl)
 
-  pub child_there : (r : R) (c : C) → IsIn r l.rules → IsIn c (D.children r) → list_any (D.same c) (classes D l) ≡ true
-  child_there r c i j = rw (classes_by_rules D l is.all_rules) (there_after D.same own c (l.root ∷ []) (flat_map D.children l.rules) (IsIn-flat_map D.children i j))
-
   pub same_number : (c d : C) → list_any (D.same c) (classes D l) ≡ true → list_any (D.same d) (classes D l) ≡ true → number c ≡ number d → c ≡ d
   same_number c d i j e =
       let a = found_at D.same exact c (classes D l) i in
       let b = found_at D.same exact d (classes D l) j in
       let f : Some c ≡ Some d = sym a ∙ ap (slice_get (classes D l)) e ∙ b in
       cc
-
-  pub numbers_of : (r : R) → numbers (record_of D (classes D l) r) ≡ map number (D.children r)
-  numbers_of r = map-map {Y = ℕ × Bool} (λ (p : ℕ × Bool). p.0) (λ c. (number c, D.positive c)) (D.children r)
-
-  pub flags_of : (r : R) → flags (record_of D (classes D l) r) ≡ map D.positive (D.children r)
-  flags_of r = map-map {Y = ℕ × Bool} (λ (p : ℕ × Bool). p.1) (λ c. (number c, D.positive c)) (D.children r)
 
   module _ (entries : List (Entry C R)) (valid : ValidSpec D entries l.root) where
     -- each class but the first is a child of an earlier entry's rule
@@ -85,7 +78,7 @@ module _ {C R : Type 0} (D : Meaning C R) (own : (c : C) → D.same c c ≡ true
           (λ z. subst (λ c. list_any (D.same c) (classes D l) ≡ true) (sym (first_class e (ap (slice_get entries) (sym z) ∙ p.1))) root_there)
           (λ some.
           let b = born p.0 e some p.1 in
-          child_there b.by.rule e.class (filed b.by (IsIn-slice_get entries b.j b.by b.at)) b.child)
+          child_there D own exact l is b.by.rule e.class (filed b.by (IsIn-slice_get entries b.j b.by b.at)) b.child)
           (zero_or_more p.0)
 
       abbrev triple : Entry C R → Ranked
@@ -105,10 +98,10 @@ module _ {C R : Type 0} (D : Meaning C R) (own : (c : C) → D.same c c ≡ true
           record {
             own = ap number good.own;
             child = λ slot small.
-                let long : length (numbers (record_of D (classes D l) e.rule)) ≡ length (D.children e.rule) = ap length (numbers_of e.rule) ∙ length-map (D.children e.rule) number in
+                let long : length (numbers (record_of D (classes D l) e.rule)) ≡ length (D.children e.rule) = ap length (numbers_of D own exact l is e.rule) ∙ length-map (D.children e.rule) number in
                 let named = good.child slot (omega (arith, small, long, good.as_many)) in
-                let at : slice_get (numbers (record_of D (classes D l) e.rule)) slot ≡ Some (number named.named.class) = ap (λ ns. slice_get ns slot) (numbers_of e.rule) ∙ get-map number (D.children e.rule) slot named.named.class named.class in
-                let flag : has_same_length (record_of D (classes D l) e.rule) slot ≡ can_keep_length D e.rule slot = ap (λ fs. is_same_length (D.shape e.rule) fs slot) (flags_of e.rule) in (
+                let at : slice_get (numbers (record_of D (classes D l) e.rule)) slot ≡ Some (number named.named.class) = ap (λ ns. slice_get ns slot) (numbers_of D own exact l is e.rule) ∙ get-map number (D.children e.rule) slot named.named.class named.class in
+                let flag : has_same_length (record_of D (classes D l) e.rule) slot ≡ can_keep_length D e.rule slot = ap (λ fs. is_same_length (D.shape e.rule) fs slot) (flags_of D own exact l is e.rule) in (
                   triple named.named,
                   IsIn-map triple (IsIn-slice_get entries (slice_index e.children slot) named.named named.there),
                   sym (index_is (numbers (record_of D (classes D l) e.rule)) slot (number named.named.class) at),

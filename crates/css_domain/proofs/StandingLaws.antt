@@ -1,11 +1,11 @@
 -- A class that stands has a record whose children stand.
 use Rattle.std.specs.Prelude.{◌≡◌, ◌<◌, ℕ, List, length, slice_index}
 use Rattle.std.proofs.Common.{subst, sym, ◌∙◌}
-use Rattle.patterns.specs.Parts.{IsIn}
-use Rattle.patterns.proofs.Lists.{IsIn-map, from_IsIn-map}
 use Rattle.css_domain.specs.declared.record.Record.{Record}
 use Rattle.css_domain.specs.Records.{numbers}
 use Rattle.css_domain.specs.Standing.{Ranked, Stands}
+use Rattle.lists.specs.Members.{IsIn}
+use Rattle.lists.proofs.Members.{IsIn-map, from_IsIn-map}
 
 pub record StandsBy (records : List Record) (c : ℕ) : Type 0 where
   pub by_record : Record

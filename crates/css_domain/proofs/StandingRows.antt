@@ -2,14 +2,14 @@
 use Rattle.std.specs.Prelude.{◌≡◌, ◌<◌, IsTrue, slice_index, ℕ, zero, suc, true, false, nat_lt, List, [], ◌∷◌, refl, length}
 use Rattle.std.proofs.Common.{arith}
 use Rattle.std.proofs.lemmas.Bool.Decides.{nat_tests}
-use Rattle.patterns.specs.Parts.{IsIn, NoRepeats}
 use Rattle.lists.specs.Members.IsIn.{here, later}
 use Rattle.lists.specs.Members.NoRepeats.{no_element, one_more}
+use Rattle.lists.proofs.Members.{none_in, from_IsIn-map}
+use Rattle.lists.specs.Members.{IsIn, NoRepeats}
 use Rattle.css_domain.specs.declared.shape.Shape.TheVariants.{Union, Atom}
 use Rattle.css_domain.specs.declared.record.Record.{Record}
 use Rattle.css_domain.specs.Records.{has_same_length, numbers}
 use Rattle.css_domain.specs.Standing.{Ranked, RestsOn, IsSupport, Stands, TellsStanding}
-use Rattle.patterns.proofs.Lists.{from_IsIn-map}
 use Rattle.css_domain.proofs.StandingLaws.{stands_by}
 use Rattle.css_domain.proofs.Rows.{rec, records2, below}
 
@@ -19,9 +19,6 @@ triple c r n = record { class = c; by_record = r; rank = n }
 
 abbrev pub triples2 : List Ranked
 triples2 = triple 0 (rec 0 Union ((1, false) ∷ (2, true) ∷ [])) 2 ∷ triple 1 (rec 1 (Atom 0) []) 1 ∷ triple 2 (rec 2 (Atom 1) []) 1 ∷ []
-
-pub none_in : {X : Type 0} {x : X} → IsIn x [] → ⊥
-none_in h = elim h [ ]
 
 root_child : (slot : ℕ) → slot < 2 → (u : Ranked) × IsIn u triples2 × (u.class ≡ slice_index (1 ∷ 2 ∷ []) slot) × (IsTrue (has_same_length (rec 0 Union ((1, false) ∷ (2, true) ∷ [])) slot) → u.rank < 2)
 root_child zero h = (triple 1 (rec 1 (Atom 0) []) 1, later _ here, refl, λ _. omega arith)

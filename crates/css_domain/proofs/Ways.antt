@@ -1,37 +1,25 @@
 -- Where the counts of the children agree as far as they matter at a length, those of the parent agree.
-use Rattle.std.proofs.Common.{◌≡◌, ℕ, zero, suc, ◌+◌, ◌-◌, ◌*◌, ◌<◌, ◌≤◌, Bool, true, false, List, [], ◌∷◌, length, refl, sym, ap, ◌∙◌, subst, arith, inl, inr, ⊎_elim}
-use Rattle.std.proofs.lemmas.Bool.{eqb-true}
+use Rattle.std.proofs.Common.{◌≡◌, ℕ, zero, suc, ◌+◌, ◌-◌, ◌*◌, ◌<◌, Bool, true, false, List, [], ◌∷◌, length, refl, sym, ap, ◌∙◌, subst, arith, ⊎_elim}
+use Rattle.std.proofs.lemmas.Bool.{eqb-true, and_parts, and_from, or_parts, or_cases, not_from_false}
 use Rattle.std.proofs.lemmas.Bool.Decides.{nat_tests}
 use Rattle.std.specs.Prelude.{◌⊎◌, map, not, ◌&&◌, ◌||◌, ◌==◌, remove, sum, sum_by, slice_get, Some}
 use Rattle.std.specs.List.{list_all, range_with_len}
 use Rattle.std.proofs.lemmas.List.{length-map}
 use Rattle.std.proofs.lemmas.List.Sums.{sum_by-cons}
 use Rattle.std.proofs.Math.Nat.{zero-mul, mul-zero}
-use Rattle.patterns.specs.Parts.{IsIn}
-use Rattle.lists.specs.Members.IsIn.{here, later}
-use Rattle.patterns.specs.Words.{words}
-use Rattle.patterns.proofs.Booleans.{and_true, both_true, and_regroup, or_false, or_true, not_false}
-use Rattle.patterns.proofs.Lists.{from_IsIn-filter}
-use Rattle.patterns.proofs.NoRepeat.{from_IsIn-words}
+use Rattle.lists.proofs.Counts.{sum_by_agrees}
+use Rattle.lists.proofs.Numbers.{less_or_whole}
+use Rattle.lists.specs.Members.{IsIn}
+use Rattle.lists.specs.Words.{words}
+use Rattle.lists.proofs.Tests.{and_regroup}
+use Rattle.lists.proofs.Members.{from_IsIn-filter}
+use Rattle.lists.proofs.Words.{from_IsIn-words}
 use Rattle.css_domain.specs.Shapes.{sums_to, product_at, combine, is_same_length}
 use Rattle.css_domain.specs.declared.shape.Shape.{Shape}
 use Rattle.css_domain.specs.declared.shape.Shape.TheVariants.{Union, Product, Atom, Nothing}
 
--- functions that agree on the elements of a list have the same sum
-pub sum_by_agrees : {X : Type 0} (f g : X → ℕ) (xs : List X) → ((x : X) → IsIn x xs → f x ≡ g x) → sum_by f xs ≡ sum_by g xs
-sum_by_agrees f g [] h = refl
-sum_by_agrees f g (x ∷ xs) h = sum_by-cons f x xs ∙ rw (h x here, sum_by_agrees f g xs (λ y i. h y (later x i))) (sym (sum_by-cons g x xs))
-
 pub sum-cons : (m : ℕ) (ns : List ℕ) → sum (m ∷ ns) ≡ m + sum ns
 sum-cons m ns = sum_by-cons (λ x. x) m ns
-
--- a number up to another is below it, or it
-pub less_or_whole : (m n : ℕ) → m ≤ n → (m < n) ⊎ (m ≡ n)
-less_or_whole m n h = go (n - m) refl
-  where
-    go : (d : ℕ) → n - m ≡ d → (m < n) ⊎ (m ≡ n)
-    go zero e = inr (omega arith)
-    go (suc d) e = inl (omega arith)
 
 -- some positive child has length 0
 abbrev blocked : List Bool → List ℕ → Bool
@@ -70,18 +58,18 @@ module _ {K : Type 0} (f g : K → ℕ → ℕ) (n : ℕ) where
   vanishes clear (k ∷ ks) (b ∷ bs) [] a h = absurd cc
   vanishes clear (k ∷ ks) (b ∷ bs) (m ∷ ns) a h =
       ⊎_elim {C = (f k m * product_at (map f ks) ns ≡ 0) × (g k m * product_at (map g ks) ns ≡ 0)}
-      (λ e. let p = and_true b (m == 0) e in let z : m ≡ 0 = eq_zero m p.1 in
+      (λ e. let p = and_parts b (m == 0) e in let z : m ≡ 0 = eq_zero m p.1 in
       (rw (z, a.0.none_here p.0) (zero-mul (product_at (map f ks) ns)), rw (z, a.0.none_there p.0) (zero-mul (product_at (map g ks) ns))))
       (λ e. let p = vanishes (clear && not b) ks bs ns a.1 e in (rw p.0 (mul-zero (f k m)), rw p.1 (mul-zero (g k m))))
-      (or_true (b && (m == 0)) (blocked bs ns) h)
+      (or_cases (b && (m == 0)) (blocked bs ns) h)
 
   no_flag : (bs : List Bool) (ns : List ℕ) → length ns ≡ length bs → sum ns ≡ 0 → blocked bs ns ≡ false → list_all not bs ≡ true
   no_flag [] ns l s h = refl
   no_flag (b ∷ bs) [] l s h = absurd (omega (arith, l))
   no_flag (b ∷ bs) (m ∷ ns) l s h =
       let t : m + sum ns ≡ 0 = sym (sum-cons m ns) ∙ s in
-      let p = or_false (b && (m == 0)) (blocked bs ns) h in
-      both_true (not b) (list_all not bs) (not_false b (not_here b m (omega (arith, t)) p.0)) (no_flag bs ns (omega (arith, l)) (omega (arith, t)) p.1)
+      let p = or_parts (b && (m == 0)) (blocked bs ns) h in
+      and_from (not b) (list_all not bs) (not_from_false b (not_here b m (omega (arith, t)) p.0)) (no_flag bs ns (omega (arith, l)) (omega (arith, t)) p.1)
 
   lengths_agree : (clear : Bool) (ks : List K) (bs : List Bool) → AllAgree clear ks bs → length ks ≡ length bs
   lengths_agree clear [] [] a = refl
@@ -94,7 +82,7 @@ module _ {K : Type 0} (f g : K → ℕ → ℕ) (n : ℕ) where
   at_n clear before k ks b bs m ns a l total c e h =
       let same = lengths_agree (clear && not b) ks bs a.1 in
       let none = no_flag bs ns (omega (arith, l, same)) (omega (arith, total, e)) h in
-      subst (λ x. f k x ≡ g k x) (sym e) (a.0.as_long (both_true clear (list_all not bs) (c (omega (arith, total, e))) none))
+      subst (λ x. f k x ≡ g k x) (sym e) (a.0.as_long (and_from clear (list_all not bs) (c (omega (arith, total, e))) none))
 
   -- the products agree where no positive child has length 0; `before` is the sum of the lengths before these
   alike : (clear : Bool) (before : ℕ) (ks : List K) (bs : List Bool) (ns : List ℕ) → AllAgree clear ks bs → length ns ≡ length ks → before + sum ns ≡ n → (before ≡ 0 → clear ≡ true) → blocked bs ns ≡ false → product_at (map f ks) ns ≡ product_at (map g ks) ns
@@ -103,8 +91,8 @@ module _ {K : Type 0} (f g : K → ℕ → ℕ) (n : ℕ) where
   alike clear before (k ∷ ks) (b ∷ bs) [] a l t c h = absurd (omega (arith, l))
   alike clear before (k ∷ ks) (b ∷ bs) (m ∷ ns) a l t c h =
       let total : before + (m + sum ns) ≡ n = ap (λ x. before + x) (sym (sum-cons m ns)) ∙ t in
-      let p = or_false (b && (m == 0)) (blocked bs ns) h in
-      let rest : product_at (map f ks) ns ≡ product_at (map g ks) ns = alike (clear && not b) (before + m) ks bs ns a.1 (omega (arith, l)) (omega (arith, total)) (λ z. both_true clear (not b) (c (omega (arith, z))) (not_false b (not_here b m (omega (arith, z)) p.0))) p.1 in
+      let p = or_parts (b && (m == 0)) (blocked bs ns) h in
+      let rest : product_at (map f ks) ns ≡ product_at (map g ks) ns = alike (clear && not b) (before + m) ks bs ns a.1 (omega (arith, l)) (omega (arith, total)) (λ z. and_from clear (not b) (c (omega (arith, z))) (not_from_false b (not_here b m (omega (arith, z)) p.0))) p.1 in
       let this : f k m ≡ g k m = ⊎_elim (λ small. a.0.shorter m small) (λ e. at_n clear before k ks b bs m ns a l total c e p.1) (less_or_whole m n (omega (arith, total))) in
       rw (this, rest) refl
 

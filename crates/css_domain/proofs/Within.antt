@@ -3,19 +3,18 @@ use Rattle.std.proofs.Common.{◌≡◌, ℕ, ◌<◌, Bool, true, List, [], ◌
 use Rattle.std.specs.Prelude.{map, flat_map, slice_get, slice_index, Some}
 use Rattle.std.specs.List.{list_any, position_or_len}
 use Rattle.std.proofs.lemmas.Option.{slice_get_within}
-use Rattle.patterns.specs.Parts.{IsIn}
-use Rattle.patterns.proofs.Lists.{from_IsIn-map}
-use Rattle.patterns.proofs.NoRepeat.{from_IsIn-flat_map, IsIn-flat_map}
 use Rattle.css_domain.specs.declared.record.Record.{Record}
 use Rattle.css_domain.specs.Records.{numbers, flags, IsWithin, AreWithin}
 use Rattle.css_domain.specs.Meanings.{Meaning}
 use Rattle.css_domain.specs.Ledgers.{Books, filings, classes, records, record_of}
 use Rattle.css_domain.specs.LedgerFacts.{IsLedger}
-use Rattle.css_domain.proofs.Determined.{IsIn-slice_get, at_place}
-use Rattle.css_domain.proofs.Growing.{there_after, position_of}
 use Rattle.css_domain.proofs.Filings.{rules_of_filings, classes_by_rules}
-use Rattle.css_domain.proofs.Finding.{found_at, from_get-map, map-map, index_is}
 use Rattle.css_domain.proofs.Classes.{block_class}
+use Rattle.lists.proofs.Places.{IsIn-slice_get, at_place, found_at, from_get-map, index_is}
+use Rattle.lists.proofs.Added.{there_after, position_of}
+use Rattle.lists.proofs.Maps.{map-map}
+use Rattle.lists.specs.Members.{IsIn}
+use Rattle.lists.proofs.Members.{from_IsIn-map, from_IsIn-flat_map, IsIn-flat_map}
 
 module _ {C R : Type 0} (D : Meaning C R) (own : (c : C) → D.same c c ≡ true) (exact : (a b : C) → D.same a b ≡ true → a ≡ b) (l : Books C R) (is : IsLedger D l) where
   pub block_of : (r : R) → IsIn r l.rules → (f : ℕ × List R) × IsIn f (filings l.rules l.journal) × IsIn r f.1

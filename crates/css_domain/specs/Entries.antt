@@ -1,7 +1,6 @@
 -- Specifications: lists of entries, one for each class, with a rule that makes it from the classes of others.
 use Rattle.std.specs.Prelude.{◌≡◌, ◌<◌, ℕ, Bool, IsTrue, List, [], length, map, slice_get, slice_index, Option, Some, None, ◌==◌}
 use Rattle.std.specs.List.{AllZip, position_or_len}
-use Rattle.patterns.specs.Parts.{IsIn, NoRepeats}
 use Rattle.css_domain.specs.Shapes.{is_same_length, combine}
 use Rattle.css_domain.specs.Added.{order_from}
 use Rattle.css_domain.specs.declared.record.Record.{Record}
@@ -9,6 +8,7 @@ use Rattle.css_domain.specs.Records.{numbers}
 use Rattle.css_domain.specs.Standing.{rank_of, pick_of, TellsStanding}
 use Rattle.css_domain.specs.Meanings.{Meaning}
 use Rattle.css_domain.specs.Ledgers.{Books, classes, records}
+use Rattle.lists.specs.Members.{IsIn, NoRepeats}
 
 -- a class with its rule, the places of the rule's children among the entries, and a rank
 pub record Entry (C R : Type 0) : Type 0 where

@@ -1,11 +1,11 @@
 -- Specifications by the rules that a ledger has.
 use Rattle.std.specs.Prelude.{List}
-use Rattle.patterns.specs.Parts.{IsIn}
 use Rattle.css_domain.specs.Meanings.{Meaning}
 use Rattle.css_domain.specs.Ledgers.{Books}
 use Rattle.css_domain.specs.LedgerFacts.{IsLedger}
 use Rattle.css_domain.specs.Entries.{Entry, ValidSpec}
 use Rattle.css_domain.specs.Reasons.{RootStands}
+use Rattle.lists.specs.Members.{IsIn}
 
 module _ {C R : Type 0} (D : Meaning C R) where
   -- a specification of the ledger's root, all of whose rules are filed

@@ -1,11 +1,11 @@
 -- What each ledger keeps.
 use Rattle.std.specs.Prelude.{◌≡◌, ◌≢◌, ◌<◌, ◌≤◌, ◌+◌, ◌*◌, ℕ, List, [], length, sum_by, slice_get, slice_index, Some}
-use Rattle.patterns.specs.Parts.{IsIn, NoRepeats}
 use Rattle.std.specs.List.Sorted.{IsStrictlySortedBy}
 use Rattle.std.specs.Ordering.{nat_cmp}
 use Rattle.css_domain.specs.Meanings.{Meaning}
 use Rattle.css_domain.specs.Records.{AreWithin, words_of}
 use Rattle.css_domain.specs.Ledgers.{Books, Event, new_books, after_all, filings, done, classes, records, after_filings}
+use Rattle.lists.specs.Members.{IsIn, NoRepeats}
 
 module _ {C R : Type 0} (D : Meaning C R) where
   -- how many words the records of the rules have

@@ -4,8 +4,8 @@ use Rattle.std.specs.List.{range_with_len, list_any, list_all, position_or_len}
 use Rattle.std.specs.Ordering.{nat_cmp}
 use Rattle.sequences.specs.Ascending.{insert_new}
 use Rattle.css_domain.specs.declared.record.Record.{Record}
-use Rattle.css_domain.specs.Added.{with_all_new}
 use Rattle.css_domain.specs.Meanings.{Meaning}
+use Rattle.lists.specs.Added.{with_all_new}
 
 -- the journal has a class number and a number of rules for each filing; the numbers that are out ascend
 pub record Books (C R : Type 0) : Type 0 where

@@ -1,10 +1,10 @@
 -- Why a ledger ends.
 use Rattle.std.specs.Prelude.{◌≡◌, ◌<◌, ◌⊎◌, ℕ, true, List, [], length, sum_by, slice_get, Some}
 use Rattle.std.specs.List.{range_with_len}
-use Rattle.patterns.specs.Parts.{IsIn, NoRepeats}
 use Rattle.css_domain.specs.Standing.{Stands}
 use Rattle.css_domain.specs.Meanings.{Meaning}
 use Rattle.css_domain.specs.Ledgers.{Books, filings, done, classes, records, is_all_done, after_filings}
+use Rattle.lists.specs.Members.{IsIn, NoRepeats}
 
 pub data Reason : Type 0 where
   Found : Reason

@@ -1,10 +1,10 @@
 -- Records, which are rules by the numbers of their classes, and their words.
 use Rattle.std.specs.Prelude.{ℕ, ◌+◌, ◌*◌, ◌^◌, ◌<◌, Bool, cond, List, ◌∷◌, length, map, slice_index, flat_map}
-use Rattle.patterns.specs.Parts.{IsIn}
 use Rattle.css_domain.specs.declared.shape.Shape.{Shape}
 use Rattle.css_domain.specs.declared.shape.Shape.TheVariants.{Union, Product, Atom, Nothing}
 use Rattle.css_domain.specs.declared.record.Record.{Record}
 use Rattle.css_domain.specs.Shapes.{is_same_length}
+use Rattle.lists.specs.Members.{IsIn}
 
 -- the children's numbers
 abbrev pub numbers : Record → List ℕ

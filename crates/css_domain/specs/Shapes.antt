@@ -1,9 +1,9 @@
 -- Shapes of rules, and how the counts of children make the count of a parent.
 use Rattle.std.specs.Prelude.{ℕ, ◌*◌, suc, Bool, true, false, not, List, [], ◌∷◌, length, remove, filter, sum, sum_by, ◌==◌, if◌then◌else◌}
 use Rattle.std.specs.List.{range_with_len, list_all}
-use Rattle.patterns.specs.Words.{words}
 use Rattle.css_domain.specs.declared.shape.Shape.{Shape}
 use Rattle.css_domain.specs.declared.shape.Shape.TheVariants.{Union, Product, Atom, Nothing}
+use Rattle.lists.specs.Words.{words}
 
 -- the ways to write n as an ordered sum of k lengths
 abbrev pub sums_to : ℕ → ℕ → List (List ℕ)

@@ -1,9 +1,9 @@
 -- Which classes stand among records, and their ranks and picks.
 use Rattle.std.specs.Prelude.{◌≡◌, ◌<◌, ◌↔◌, ◌-◌, ℕ, zero, suc, Bool, false, ◌&&◌, ◌||◌, not, IsTrue, ◌==◌, List, length, map, position, unwrap_or, find, slice_index}
 use Rattle.std.specs.List.{range_with_len, list_any, list_all}
-use Rattle.patterns.specs.Parts.{IsIn, NoRepeats}
 use Rattle.css_domain.specs.declared.record.Record.{Record}
 use Rattle.css_domain.specs.Records.{numbers, has_same_length}
+use Rattle.lists.specs.Members.{IsIn, NoRepeats}
 
 -- a class with a record and a rank
 pub record Ranked : Type 0 where

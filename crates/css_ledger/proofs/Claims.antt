@@ -4,8 +4,8 @@ use Rattle.std.specs.Prelude.{◌&&◌, ◌==◌, not, filter, slice_set, Some, 
 use Rattle.std.specs.List.{list_all, range_with_len, position_or_len}
 use Rattle.std.specs.List.Sorted.{IsStrictlySortedBy}
 use Rattle.std.specs.Ordering.{nat_cmp}
-use Rattle.patterns.specs.Parts.{IsIn}
 use Rattle.lists.specs.Members.NoRepeats.{no_element, one_more}
+use Rattle.lists.proofs.Members.{none_in}
 use Rattle.std.proofs.lemmas.Bool.Decides.{nat_tests}
 use Rattle.css_domain.specs.declared.record.Record.{Record}
 use Rattle.css_domain.specs.Meanings.{Meaning}
@@ -19,10 +19,7 @@ use Rattle.css_ledger.specs.Stages.{is_fresh, is_out, is_done, stage_at, outs}
 use Rattle.css_ledger.specs.Kept.{AreKept}
 use Rattle.css_domain.proofs.Finding.{among_from_in, same_or_other}
 use Rattle.css_domain.proofs.Sizes.{few_classes, few_rules}
-use Rattle.css_ledger.proofs.Outs.{is_out_by_stage, outs_set_out, outs_set_other, outs_ascend, length-outs_set, stage_set_same, stage_set_other, within_if_out, work_is, all_done_outs, list_all_stages, length-set_stage, first_is_fresh, made_fresh, without_absent, without_inserted}
-
-none_in : {X : Type 0} {x : X} → IsIn x [] → ⊥
-none_in h = elim h [ ]
+use Rattle.css_ledger.proofs.Outs.{none_at, some_at, is_out_by_stage, outs_set_out, outs_set_other, outs_ascend, length-outs_set, stage_set_same, stage_set_other, within_if_out, work_is, all_done_outs, list_all_stages, length-set_stage, first_is_fresh, made_fresh, without_absent, without_inserted}
 
 module _ {C R : Type 0} (D : Meaning C R) where
   pub opened : (c : C) (budget rulebook : ℕ) → 1 ≤ budget → budget ≤ 5000 → AreKept D (new_books c budget rulebook) (c ∷ []) (Fresh ∷ []) [] 0
@@ -146,14 +143,6 @@ module _ {C R : Type 0} (D : Meaning C R) where
         by Fresh e = refl
         by Out e = absurd cc
         by Done e = refl
-
-    none_at : (b : Bool) (n : ℕ) → None ≡ cond b (Some n) None → b ≡ false
-    none_at true n e = absurd cc
-    none_at false n e = refl
-
-    some_at : (b : Bool) (n m : ℕ) → Some m ≡ cond b (Some n) None → (b ≡ true) × (n ≡ m)
-    some_at true n m e = (refl, (let f : n ≡ m = cc in f))
-    some_at false n m e = absurd cc
 
     -- what is claimed where none is fresh
     pub claim_none : None ≡ position is_fresh stages → cond (count == 0) Finished (cond (count + length l.journal == l.budget) Spent Idle) ≡ claimed D l

@@ -3,32 +3,34 @@ use Rattle.std.proofs.Common.{◌≡◌, ℕ, ◌+◌, ◌-◌, ◌^◌, ◌<◌
 use Rattle.std.specs.Prelude.{◌==◌, map, flat_map, slice_get, slice_set, slice_index, Some}
 use Rattle.std.specs.List.{list_any, position_or_len}
 use Rattle.std.proofs.lemmas.List.{map-append, length-map}
-use Rattle.std.proofs.lemmas.Bool.{eqb-true}
+use Rattle.std.proofs.lemmas.Bool.{eqb-true, eq-eqb}
 use Rattle.std.proofs.lemmas.Option.{slice_get_within}
 use Rattle.std.proofs.lemmas.List.{length-replicate}
 use Rattle.std.proofs.Math.Seq.{take-append_seam}
-use Rattle.css_domain.proofs.Ways.{less_or_whole}
 use Rattle.std.proofs.lemmas.List.Folds.{list_any-append}
-use Rattle.patterns.specs.Parts.{IsIn}
+use Rattle.std.proofs.Math.Bool.{or-false, or-true}
 use Rattle.lists.specs.Members.IsIn.{here, later}
 use Rattle.lists.specs.Members.NoRepeats.{no_element, one_more}
-use Rattle.patterns.proofs.Booleans.{or_end, or_all}
-use Rattle.patterns.proofs.Lists.{IsIn-append_cases, NoRepeats-append}
+use Rattle.lists.proofs.Numbers.{less_or_whole}
+use Rattle.lists.specs.Added.{with_all_new}
+use Rattle.lists.proofs.Places.{at_place, get_left, index_left, index_end}
+use Rattle.lists.proofs.Added.{position_stays, grows, all_distinct, position_of}
+use Rattle.lists.proofs.Maps.{map-agree}
+use Rattle.lists.specs.Members.{IsIn}
+use Rattle.lists.proofs.Members.{IsIn-append_cases}
+use Rattle.lists.proofs.Repeats.{NoRepeats-append}
 use Rattle.css_domain.specs.declared.record.Record.{Record}
-use Rattle.css_domain.specs.Added.{with_all_new}
 use Rattle.css_domain.specs.Meanings.{Meaning}
 use Rattle.css_domain.specs.Ledgers.{Books, filings, classes, records, record_of, done, is_among, without, with_filing, after_filings}
 use Rattle.css_domain.specs.LedgerFacts.{IsLedger, IsFilingOf}
-use Rattle.css_domain.proofs.Determined.{at_place}
 use Rattle.css_ledger.specs.declared.stage.Stage.{Stage}
 use Rattle.css_ledger.specs.declared.stage.Stage.TheVariants.{Fresh, Out, Done}
 use Rattle.css_ledger.specs.Stages.{is_out, is_done, stage_at, outs}
 use Rattle.css_ledger.specs.Kept.{AreKept}
 use Rattle.css_ledger.specs.Numbered.{record_with}
 use Rattle.css_ledger.proofs.Outs.{is_out_by_stage, outs_set_other, outs_ascend, length-outs_set, stage_set_same, stage_set_other, within_if_out, length-set_stage, outs_fresh, done_fresh}
-use Rattle.css_domain.proofs.Growing.{position_stays, grows, all_distinct, position_of}
 use Rattle.css_domain.proofs.Filings.{filings_more, classes_more, all_rules_more, before_more, at_end}
-use Rattle.css_domain.proofs.Finding.{map_same, get_left, index_left, index_end, among_from_in, same_or_other, same_number}
+use Rattle.css_domain.proofs.Finding.{among_from_in, same_or_other}
 use Rattle.css_domain.proofs.Classes.{block_class}
 use Rattle.css_domain.proofs.Within.{parent_there, child_there}
 use Rattle.css_domain.proofs.Sizes.{length-children, few_classes}
@@ -44,7 +46,7 @@ module _ {C R : Type 0} (D : Meaning C R) (own : (c : C) → D.same c c ≡ true
     record_stays : (ys : List C) (r : R) → list_any (D.same (D.parent r)) (classes D l) ≡ true → ((c : C) → IsIn c (D.children r) → list_any (D.same c) (classes D l) ≡ true) → record_of D (classes D l ++ ys) r ≡ record_of D (classes D l) r
     record_stays ys r p f =
         let a = position_stays D.same (D.parent r) (classes D l) ys p in
-        let b = map_same {Y = ℕ × Bool} (λ c. (position_or_len (D.same c) (classes D l ++ ys), D.positive c)) (λ c. (position_or_len (D.same c) (classes D l), D.positive c)) (D.children r) (λ c i. ap (λ (k : ℕ). (k, D.positive c)) (position_stays D.same c (classes D l) ys (f c i))) in
+        let b = map-agree {Y = ℕ × Bool} (λ c. (position_or_len (D.same c) (classes D l ++ ys), D.positive c)) (λ c. (position_or_len (D.same c) (classes D l), D.positive c)) (D.children r) (λ c i. ap (λ (k : ℕ). (k, D.positive c)) (position_stays D.same c (classes D l) ys (f c i))) in
         λ i. record { parent = a i; shape = D.shape r; children = b i }
 
     module _ (n : ℕ) (more : List R) (there : IsIn n l.out) (ok : (c : C) → slice_get (classes D l) n ≡ Some c → IsFilingOf D l.rulebook c more) where
@@ -58,7 +60,7 @@ module _ {C R : Type 0} (D : Meaning C R) (own : (c : C) → D.same c c ≡ true
       grown = let g = grows D.same (classes D l) (flat_map D.children more) in (g.0, new_classes ∙ g.1, g.2)
 
       old_records : map (λ r. record_of D (classes D (with_filing l n more)) r) l.rules ≡ records D l
-      old_records = map_same (λ r. record_of D (classes D (with_filing l n more)) r) (λ r. record_of D (classes D l) r) l.rules (λ r i. ap (λ cs. record_of D cs r) grown.1 ∙ record_stays grown.0 r (parent_there D own exact l is r i) (λ c j. child_there D own exact l is r c i j))
+      old_records = map-agree (λ r. record_of D (classes D (with_filing l n more)) r) (λ r. record_of D (classes D l) r) l.rules (λ r i. ap (λ cs. record_of D cs r) grown.1 ∙ record_stays grown.0 r (parent_there D own exact l is r i) (λ c j. child_there D own exact l is r c i j))
 
       pub new_records : records D (with_filing l n more) ≡ records D l ++ map (λ r. record_of D (classes D (with_filing l n more)) r) more
       new_records = map-append (λ r. record_of D (classes D (with_filing l n more)) r) l.rules more ∙ ap (λ rs. rs ++ map (λ r. record_of D (classes D (with_filing l n more)) r) more) old_records
@@ -98,12 +100,12 @@ module _ {C R : Type 0} (D : Meaning C R) (own : (c : C) → D.same c c ≡ true
             (⊎_elim {C = is_done (stage_at now m) ≡ is_among m (done l ++ n ∷ [])}
             (λ e.
             subst (λ j. is_done (stage_at now j) ≡ is_among j (done l ++ n ∷ [])) e
-            (ap is_done (stage_set_same n (stages ++ replicate k Fresh) Done inside) ∙ sym (list_any-append (λ j. n == j) (done l) (n ∷ []) ∙ rw (same_number n n refl) (or_all (is_among n (done l))))))
+            (ap is_done (stage_set_same n (stages ++ replicate k Fresh) Done inside) ∙ sym (list_any-append (λ j. n == j) (done l) (n ∷ []) ∙ rw (eq-eqb n n refl) (or-true (is_among n (done l))))))
             (λ o.
             ap is_done (stage_set_other n m (stages ++ replicate k Fresh) Done o)
             ∙ done_fresh stages k m
             ∙ kept.staged m
-            ∙ sym (list_any-append (λ j. m == j) (done l) (n ∷ []) ∙ rw (differs m o) (or_end (is_among m (done l)))))
+            ∙ sym (list_any-append (λ j. m == j) (done l) (n ∷ []) ∙ rw (differs m o) (or-false (is_among m (done l)))))
             (same_or_other n m))
           where
             differs : (m : ℕ) → (n ≡ m → ⊥) → (m == n) ≡ false
@@ -201,7 +203,7 @@ module _ {C R : Type 0} (D : Meaning C R) (own : (c : C) → D.same c c ≡ true
         -- the records by the number of the class
         records_by_number : map (record_with D n (classes D (with_filing l n more))) more ≡ map (λ r. record_of D (classes D (with_filing l n more)) r) more
         records_by_number =
-            map_same (record_with D n (classes D (with_filing l n more))) (λ r. record_of D (classes D (with_filing l n more)) r) more
+            map-agree (record_with D n (classes D (with_filing l n more))) (λ r. record_of D (classes D (with_filing l n more)) r) more
             (λ r i.
             let c = at_place (classes D l) n small in
             let own_class = of_filing.own r i in

@@ -4,4 +4,3 @@ pub mod Filed
 pub mod Taken
 pub mod Numbering
 pub mod Places
-pub mod Back

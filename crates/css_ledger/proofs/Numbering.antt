@@ -1,5 +1,5 @@
 -- Numbers of what was added stay, and the list can be cut back.
-use Rattle.std.proofs.Common.{◌≡◌, ℕ, zero, suc, ◌+◌, ◌<◌, ◌≤◌, Bool, true, List, [], ◌∷◌, ◌++◌, length, take, drop, get_or, append_assoc, length-append, sym, ap, subst, ◌∙◌, arith}
+use Rattle.std.proofs.Common.{◌≡◌, ℕ, zero, suc, ◌+◌, ◌≤◌, Bool, true, List, [], ◌∷◌, ◌++◌, length, take, drop, get_or, append_assoc, length-append, sym, ap, subst, ◌∙◌, arith, append-nil}
 use Rattle.std.specs.Prelude.{map, flat_map, slice_get, Some, Result, Ok, Err, OnErr}
 use Rattle.std.specs.List.{list_any}
 use Rattle.std.proofs.lemmas.List.{map-append, length-take, take-append-drop}
@@ -7,14 +7,14 @@ use Rattle.std.proofs.lemmas.List.Folds.{length-flat_map-take}
 use Rattle.std.proofs.lemmas.Option.{slice_get_within, get_or_from_slice_get}
 use Rattle.std.proofs.lemmas.Grind.{flat_map-append}
 use Rattle.std.proofs.Math.Seq.{take-append_seam}
-use Rattle.patterns.specs.Parts.{IsIn}
-use Rattle.patterns.proofs.NoRepeat.{IsIn-flat_map}
 use Rattle.css_domain.specs.declared.record.Record.{Record}
-use Rattle.css_domain.specs.Added.{with_new, with_all_new}
 use Rattle.css_domain.specs.Meanings.{Meaning}
 use Rattle.css_ledger.specs.Numbered.{child_in, numbered, record_with}
-use Rattle.css_domain.proofs.Growing.{position_stays, grows, grows_one, there_after, all_new_append}
-use Rattle.css_domain.proofs.Finding.{append_nothing, map_same}
+use Rattle.lists.specs.Added.{with_new, with_all_new}
+use Rattle.lists.proofs.Added.{position_stays, grows, grows_one, there_after, all_new_append}
+use Rattle.lists.proofs.Maps.{map-agree}
+use Rattle.lists.specs.Members.{IsIn}
+use Rattle.lists.proofs.Members.{IsIn-flat_map}
 
 -- one element more
 pub take_one_more : {X : Type 0} (xs : List X) (i : ℕ) (x : X) → slice_get xs i ≡ Some x → take (i + 1) xs ≡ take i xs ++ x ∷ []
@@ -35,7 +35,7 @@ module _ {C R : Type 0} (D : Meaning C R) where
       ap (take (length xs)) whole ∙ take-append_seam xs (g.0 ++ drop n zs)
 
   pub numbered_stays : (keys zs cs : List C) → ((c : C) → IsIn c cs → list_any (D.same c) keys ≡ true) → numbered D (keys ++ zs) cs ≡ numbered D keys cs
-  numbered_stays keys zs cs f = map_same {Y = ℕ × Bool} (child_in D (keys ++ zs)) (child_in D keys) cs (λ c i. ap (λ (k : ℕ). (k, D.positive c)) (position_stays D.same c keys zs (f c i)))
+  numbered_stays keys zs cs f = map-agree {Y = ℕ × Bool} (child_in D (keys ++ zs)) (child_in D keys) cs (λ c i. ap (λ (k : ℕ). (k, D.positive c)) (position_stays D.same c keys zs (f c i)))
 
   module _ (own : (c : C) → D.same c c ≡ true) where
     -- one child more
@@ -51,10 +51,10 @@ module _ {C R : Type 0} (D : Meaning C R) where
     pub rule_added : (parent : ℕ) (xs keys new : List C) (items : List Record) (rs : List R) (r : R) → keys ≡ with_all_new D.same xs (flat_map D.children rs) → items ≡ map (record_with D parent keys) rs → new ≡ with_all_new D.same keys (D.children r) → (new ≡ with_all_new D.same xs (flat_map D.children (rs ++ r ∷ []))) × (items ++ record_with D parent new r ∷ [] ≡ map (record_with D parent new) (rs ++ r ∷ []))
     rule_added parent xs keys new items rs r k i n =
         let g = grows D.same keys (D.children r) in
-        let one : flat_map D.children (r ∷ []) ≡ D.children r = append_nothing (D.children r) in
+        let one : flat_map D.children (r ∷ []) ≡ D.children r = append-nil (D.children r) in
         let stay : (s : R) → IsIn s rs → record_with D parent new s ≡ record_with D parent keys s = λ s j. (let e = ap (λ ks. numbered D ks (D.children s)) (n ∙ g.1) ∙ numbered_stays keys g.0 (D.children s) (λ d h. subst (λ ks. list_any (D.same d) ks ≡ true) (sym k) (there_after D.same own d xs (flat_map D.children rs) (IsIn-flat_map D.children j h))) in λ m. record { parent = parent; shape = D.shape s; children = e m }) in (
           n ∙ ap (λ ks. with_all_new D.same ks (D.children r)) k ∙ sym (all_new_append D.same xs (flat_map D.children rs) (D.children r)) ∙ ap (λ cs. with_all_new D.same xs (flat_map D.children rs ++ cs)) (sym one) ∙ ap (with_all_new D.same xs) (sym (flat_map-append D.children rs (r ∷ []))),
-          ap (λ is. is ++ record_with D parent new r ∷ []) (i ∙ sym (map_same (record_with D parent new) (record_with D parent keys) rs stay)) ∙ sym (map-append (record_with D parent new) rs (r ∷ [])),
+          ap (λ is. is ++ record_with D parent new r ∷ []) (i ∙ sym (map-agree (record_with D parent new) (record_with D parent keys) rs stay)) ∙ sym (map-append (record_with D parent new) rs (r ∷ [])),
         )
 
   pub few_added : (xs cs : List C) → length (with_all_new D.same xs cs) ≤ length xs + length cs
@@ -80,8 +80,3 @@ module _ {C R : Type 0} (D : Meaning C R) where
 pub on_err : {A B : Type 0} (r : Result A B) {P : Type 0} → P → OnErr r P
 on_err (Ok a) p = tt
 on_err (Err e) p = p
-
-pub some_at : {X : Type 0} (xs : List X) (i : ℕ) (x : X) → i < length xs → x ≡ get_or xs i x → slice_get xs i ≡ Some x
-some_at [] i x h e = absurd (omega (arith, h))
-some_at (y ∷ xs) zero x h e = ap Some (sym e)
-some_at (y ∷ xs) (suc i) x h e = some_at xs i x (omega (arith, h)) e

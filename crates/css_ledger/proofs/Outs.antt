@@ -8,14 +8,16 @@ use Rattle.std.specs.Ordering.{nat_cmp, match_ordering}
 use Rattle.std.specs.declared.cmp.Ordering.{Ordering}
 use Rattle.std.specs.declared.cmp.Ordering.TheVariants.{Less, Equal, Greater}
 use Rattle.std.proofs.lemmas.Bool.Decides.{nat_tests}
-use Rattle.patterns.proofs.Booleans.{and_none, or_false}
+use Rattle.std.proofs.lemmas.Bool.{eq-eqb, or_parts}
+use Rattle.std.proofs.Math.Bool.{and-false}
 use Rattle.sequences.specs.Ascending.{insert_new}
 use Rattle.css_domain.specs.Ledgers.{is_among, without, work}
-use Rattle.css_domain.proofs.Finding.{same_number, same_or_other, take_whole}
+use Rattle.css_domain.proofs.Finding.{same_or_other}
 use Rattle.css_domain.specs.Ledgers.Claimed.{Work, Idle}
 use Rattle.css_ledger.specs.declared.stage.Stage.{Stage}
 use Rattle.css_ledger.specs.declared.stage.Stage.TheVariants.{Fresh, Out, Done}
 use Rattle.css_ledger.specs.Stages.{is_fresh, is_out, is_done, stage_at, outs_from, outs, IsNoneFresh}
+use Rattle.lists.proofs.Places.{take_whole}
 
 -- ---- numbers
 pub other_number : (a b : ℕ) → a < b → ((b == a) ≡ false) × ((a == b) ≡ false)
@@ -40,7 +42,7 @@ none_below n k (m ∷ ns) l a = rw ((other_number n m (omega (arith, l, a.0))).1
 
 pub among_outs : (i n k : ℕ) (stages : List Stage) → n ≡ i + k → is_among n (outs_from i stages) ≡ is_out (stage_at stages k)
 among_outs i n k [] e = refl
-among_outs i n zero (Out ∷ stages) e = rw (same_number n i (omega (arith, e))) refl
+among_outs i n zero (Out ∷ stages) e = rw (eq-eqb n i (omega (arith, e))) refl
 among_outs i n zero (Fresh ∷ stages) e = none_below n (suc i) (outs_from (suc i) stages) (omega (arith, e)) (outs_above (suc i) stages (suc i) (omega arith))
 among_outs i n zero (Done ∷ stages) e = none_below n (suc i) (outs_from (suc i) stages) (omega (arith, e)) (outs_above (suc i) stages (suc i) (omega arith))
 among_outs i n (suc k) (Out ∷ stages) e = rw ((other_number i n (omega (arith, e))).0) (among_outs (suc i) n k stages (omega (arith, e)))
@@ -78,8 +80,8 @@ outs_set_out n stages h f = outs_with 0 n n stages (omega arith) h f
 pub outs_less : (i n k : ℕ) (stages : List Stage) (v : Stage) → is_out v ≡ false → n ≡ i + k → k < length stages → outs_from i (slice_set stages k v) ≡ without n (outs_from i stages)
 outs_less i n k stages Out f e h = absurd cc
 outs_less i n k [] v f e h = absurd (omega (arith, h))
-outs_less i n zero (Out ∷ stages) Fresh f e h = rw (same_number n i (omega (arith, e))) (sym (without_none n (outs_from (suc i) stages) (above i n stages e)))
-outs_less i n zero (Out ∷ stages) Done f e h = rw (same_number n i (omega (arith, e))) (sym (without_none n (outs_from (suc i) stages) (above i n stages e)))
+outs_less i n zero (Out ∷ stages) Fresh f e h = rw (eq-eqb n i (omega (arith, e))) (sym (without_none n (outs_from (suc i) stages) (above i n stages e)))
+outs_less i n zero (Out ∷ stages) Done f e h = rw (eq-eqb n i (omega (arith, e))) (sym (without_none n (outs_from (suc i) stages) (above i n stages e)))
 outs_less i n zero (Fresh ∷ stages) Fresh f e h = sym (without_none n (outs_from (suc i) stages) (above i n stages e))
 outs_less i n zero (Fresh ∷ stages) Done f e h = sym (without_none n (outs_from (suc i) stages) (above i n stages e))
 outs_less i n zero (Done ∷ stages) Fresh f e h = sym (without_none n (outs_from (suc i) stages) (above i n stages e))
@@ -171,7 +173,7 @@ work_is q a (Done ∷ stages) f =
 pub all_done : (i : ℕ) (stages : List Stage) → list_all is_done stages ≡ (not (nat_lt (position_or_len is_fresh stages) (length stages)) && (length (outs_from i stages) == 0))
 all_done i [] = refl
 all_done i (Fresh ∷ stages) = let l : nat_lt 0 (suc (length stages)) ≡ true = grind (arith, nat_tests) in rw l refl
-all_done i (Out ∷ stages) = let l : (suc (length (outs_from (suc i) stages)) == 0) ≡ false = grind (arith, nat_tests) in rw l (sym (and_none (not (nat_lt (1 + position_or_len is_fresh stages) (suc (length stages))))))
+all_done i (Out ∷ stages) = let l : (suc (length (outs_from (suc i) stages)) == 0) ≡ false = grind (arith, nat_tests) in rw l (sym (and-false (not (nat_lt (1 + position_or_len is_fresh stages) (suc (length stages))))))
 all_done i (Done ∷ stages) = let l : nat_lt (1 + position_or_len is_fresh stages) (suc (length stages)) ≡ nat_lt (position_or_len is_fresh stages) (length stages) = grind (arith, nat_tests) in rw l (all_done (suc i) stages)
 
 pub all_done_outs : (stages : List Stage) → list_all is_done stages ≡ (not (nat_lt (position_or_len is_fresh stages) (length stages)) && (length (outs stages) == 0))
@@ -254,7 +256,7 @@ none_out_below stages k small f n h =
 
 pub without_absent : (n : ℕ) (ns : List ℕ) → is_among n ns ≡ false → without n ns ≡ ns
 without_absent n [] h = refl
-without_absent n (m ∷ ns) h = let b = or_false (n == m) (is_among n ns) h in rw b.0 (ap (λ (xs : List ℕ). m ∷ xs) (without_absent n ns b.1))
+without_absent n (m ∷ ns) h = let b = or_parts (n == m) (is_among n ns) h in rw b.0 (ap (λ (xs : List ℕ). m ∷ xs) (without_absent n ns b.1))
 
 -- ---- no class below the low mark is fresh
 pub none_fresh_within : (low : ℕ) (stages : List Stage) → IsNoneFresh low stages → low ≤ length stages
@@ -305,11 +307,12 @@ none_fresh_more low [] k f n h = absurd (let e = f n h in cc)
 none_fresh_more low (s ∷ stages) k f zero h = f zero h
 none_fresh_more low (s ∷ stages) k f (suc n) h = none_fresh_more (low - 1) stages k (λ m small. f (suc m) (omega (arith, small))) n (omega (arith, h))
 
-none_at : (b : Bool) (n : ℕ) → None ≡ cond b (Some n) None → b ≡ false
+-- what a number tells that is there only by a test
+pub none_at : (b : Bool) (n : ℕ) → None ≡ cond b (Some n) None → b ≡ false
 none_at true n e = absurd cc
 none_at false n e = refl
 
-some_at : (b : Bool) (n m : ℕ) → Some m ≡ cond b (Some n) None → (b ≡ true) × (n ≡ m)
+pub some_at : (b : Bool) (n m : ℕ) → Some m ≡ cond b (Some n) None → (b ≡ true) × (n ≡ m)
 some_at true n m e = (refl, (let f : n ≡ m = cc in f))
 some_at false n m e = absurd cc
 
@@ -342,10 +345,10 @@ rest_whole low stages = ap (λ k. take k (drop low stages)) (sym (length-drop lo
 
 -- what was inserted is taken out again
 pub without_inserted : (n : ℕ) (ns : List ℕ) → is_among n ns ≡ false → without n (insert_new nat_cmp n ns) ≡ ns
-without_inserted n [] h = rw (same_number n n refl) refl
-without_inserted n (m ∷ ns) h = go (nat_cmp n m) (or_false (n == m) (is_among n ns) h) (without_inserted n ns)
+without_inserted n [] h = rw (eq-eqb n n refl) refl
+without_inserted n (m ∷ ns) h = go (nat_cmp n m) (or_parts (n == m) (is_among n ns) h) (without_inserted n ns)
   where
     go : (o : Ordering) → ((n == m) ≡ false) × (is_among n ns ≡ false) → (is_among n ns ≡ false → without n (insert_new nat_cmp n ns) ≡ ns) → without n (match_ordering o (n ∷ m ∷ ns) (m ∷ ns) (m ∷ insert_new nat_cmp n ns)) ≡ m ∷ ns
-    go Less b again = rw (same_number n n refl) (without_absent n (m ∷ ns) h)
+    go Less b again = rw (eq-eqb n n refl) (without_absent n (m ∷ ns) h)
     go Equal b again = without_absent n (m ∷ ns) h
     go Greater b again = rw b.0 (ap (λ (xs : List ℕ). m ∷ xs) (again b.1))

@@ -7,14 +7,13 @@ use Rattle.std.proofs.lemmas.List.{length-map}
 use Rattle.css_domain.specs.declared.record.Record.{Record}
 use Rattle.css_domain.specs.Meanings.{Meaning}
 use Rattle.css_domain.specs.Ledgers.{Books, classes, records, record_of}
-use Rattle.css_domain.proofs.Determined.{IsIn-slice_get}
 use Rattle.css_ledger.specs.declared.stage.Stage.{Stage}
 use Rattle.css_ledger.specs.Stages.{outs}
 use Rattle.css_ledger.specs.Kept.{AreKept}
 use Rattle.std.proofs.lemmas.Option.{get_or_from_slice_get}
-use Rattle.css_domain.proofs.Finding.{found_at, get-map}
 use Rattle.css_domain.proofs.Within.{child_there}
 use Rattle.css_ledger.proofs.Taken.{own}
+use Rattle.lists.proofs.Places.{IsIn-slice_get, found_at, get-map}
 
 module _ {C R : Type 0} (D : Meaning C R) (E : C → C → Bool) (laws : IsEquivalence E) (same : (a b : C) → D.same a b ≡ E a b) (exact : (a b : C) → E a b ≡ true → a ≡ b) where
   module _ (l : Books C R) (keys : List C) (stages : List Stage) (items : List Record) (count : ℕ) (kept : AreKept D l keys stages items count) (out_is : l.out ≡ outs stages) where

@@ -2,9 +2,7 @@
 use Rattle.std.proofs.Common.{◌≡◌, ℕ, ◌+◌, ◌-◌, ◌^◌, ◌<◌, ◌≤◌, Bool, true, List, [], ◌∷◌, ◌++◌, length, length-append, take, replicate, refl, arith, sym, ap, subst, ◌∙◌}
 use Rattle.std.specs.Prelude.{map, flat_map, slice_get, slice_set, Some}
 use Rattle.std.specs.Cmp.{IsEquivalence}
-use Rattle.patterns.specs.Parts.{IsIn}
 use Rattle.css_domain.specs.declared.record.Record.{Record}
-use Rattle.css_domain.specs.Added.{with_all_new}
 use Rattle.css_domain.specs.Meanings.{Meaning}
 use Rattle.css_domain.specs.Ledgers.{Books, classes, records, with_filing}
 use Rattle.css_domain.specs.LedgerFacts.{IsFilingOf}
@@ -15,6 +13,8 @@ use Rattle.css_ledger.proofs.Outs.{none_fresh_set, none_fresh_more}
 use Rattle.css_ledger.specs.Kept.{AreKept}
 use Rattle.css_ledger.specs.Numbered.{record_with}
 use Rattle.css_ledger.proofs.Filed.{fits, filed_fields, old_classes, old_records_first}
+use Rattle.lists.specs.Added.{with_all_new}
+use Rattle.lists.specs.Members.{IsIn}
 
 module _ {C R : Type 0} (D : Meaning C R) (E : C → C → Bool) (laws : IsEquivalence E) (same : (a b : C) → D.same a b ≡ E a b) (exact : (a b : C) → E a b ≡ true → a ≡ b) where
   pub own : (c : C) → D.same c c ≡ true

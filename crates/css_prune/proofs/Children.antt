@@ -4,10 +4,11 @@ use Rattle.std.specs.Prelude.{◌&&◌, map, slice_index}
 use Rattle.std.specs.List.{list_all, range_with_len}
 use Rattle.std.proofs.lemmas.List.Folds.{list_all-append, list_all_at}
 use Rattle.std.proofs.lemmas.List.FromFn.{get_or-range_with_len, length-range_with_len}
-use Rattle.patterns.specs.Parts.{IsIn}
+use Rattle.std.proofs.lemmas.Bool.{and_from}
+use Rattle.std.proofs.Math.Bool.{and-true}
 use Rattle.lists.specs.Members.IsIn.{here, later}
-use Rattle.patterns.proofs.Booleans.{both_true, and_end}
-use Rattle.css_prune.proofs.Ends.{range_more}
+use Rattle.lists.proofs.Ranges.{range_more}
+use Rattle.lists.specs.Members.{IsIn}
 
 pub child_number : (children : List (ℕ × Bool)) (i : ℕ) → slice_index (map (λ (c : ℕ × Bool). c.0) children) i ≡ (get_or {A = ℕ × Bool} children i (0, false)).0
 child_number [] i = refl
@@ -18,7 +19,7 @@ pub all_range_more : (p : ℕ → Bool) (n : ℕ) → list_all p (range_with_len
 all_range_more p n h e =
     let s : n + 1 ≡ suc n = omega arith in
     let z : 0 + n ≡ n = omega arith in
-    rw s (ap (λ xs. list_all p xs) (range_more 0 n) ∙ list_all-append p (range_with_len 0 n) ((0 + n) ∷ []) ∙ both_true (list_all p (range_with_len 0 n)) (p (0 + n) && true) h (and_end (p (0 + n)) ∙ ap p z ∙ e))
+    rw s (ap (λ xs. list_all p xs) (range_more 0 n) ∙ list_all-append p (range_with_len 0 n) ((0 + n) ∷ []) ∙ and_from (list_all p (range_with_len 0 n)) (p (0 + n) && true) h (and-true (p (0 + n)) ∙ ap p z ∙ e))
 
 pub range_fails : (p : ℕ → Bool) (n i : ℕ) → i < n → p i ≡ false → list_all p (range_with_len 0 n) ≡ false
 range_fails p n i h e =

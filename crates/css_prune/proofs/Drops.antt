@@ -3,14 +3,13 @@ use Rattle.std.proofs.Common.{◌≡◌, ℕ, zero, suc, ◌<◌, ◌≤◌, Boo
 use Rattle.std.specs.Prelude.{◌&&◌, slice_index}
 use Rattle.std.proofs.lemmas.Bool.Decides.{nat_tests}
 use Rattle.std.proofs.lemmas.List.{get_or_past}
-use Rattle.patterns.proofs.Booleans.{and_true, both_true}
+use Rattle.std.proofs.lemmas.Bool.{cases_lt, and_parts, and_from}
 use Rattle.css_domain.specs.declared.record.Record.{Record}
 use Rattle.css_domain.specs.Standing.{Stands, is_ranked}
 use Rattle.css_domain.proofs.StandingLaws.{stands_by}
 use Rattle.css_domain.specs.Records.{AreWithin}
 use Rattle.css_prune.specs.Pruning.{kept, IsPruned}
 use Rattle.css_prune.specs.Marks.{AreDropped, AreRanks, rank_after}
-use Rattle.css_prune.proofs.Passing.{there_or_past}
 use Rattle.css_prune.specs.declared.pruned.Pruned.{Pruned}
 use Rattle.css_prune.proofs.Marks.{rank_some, rank_none, pick_none}
 use Rattle.css_prune.proofs.Ends.{ends_rank, ends_pick}
@@ -25,7 +24,7 @@ pub stands_below : (classes : ℕ) (records : List Record) → AreWithin classes
 stands_below classes records within c s = let b = stands_by records c s in omega (arith, (within b.by_record b.recorded).own, b.own)
 
 pub kept_below : (keep : List Bool) (c : ℕ) → kept keep c ≡ true → c < length keep
-kept_below keep c h = ⊎_elim {C = c < length keep} (λ l. l) (λ p. absurd (let e = get_or_past keep c false p in cc)) (there_or_past c (length keep))
+kept_below keep c h = ⊎_elim {C = c < length keep} (λ l. l) (λ p. absurd (let e = get_or_past keep c false p in cc)) (cases_lt c (length keep))
 
 positive : (n : ℕ) → nat_lt 0 n ≡ true → 0 < n
 positive n e = grind (arith, nat_tests)
@@ -42,7 +41,7 @@ module _ (classes : ℕ) (records : List Record) (within : AreWithin classes rec
   still_all new d c s =
       let r = ranked_if_stands (kept keep) records all c s in
       let some = rank_some (kept keep) records (length records) c r in
-      d.left c ∙ both_true (kept keep c) (nat_lt 0 (slice_index ranks c)) (all c s) (from_positive (slice_index ranks c) (omega (arith, some, told c)))
+      d.left c ∙ and_from (kept keep c) (nat_lt 0 (slice_index ranks c)) (all c s) (from_positive (slice_index ranks c) (omega (arith, some, told c)))
 
   ends : length keep ≡ classes → length ranks ≡ classes → length picks ≡ classes → AreDropped ranks keep keep → IsPruned records classes (record { keep = keep; rank = ranks; pick = picks })
   ends k r p d =
@@ -59,7 +58,7 @@ module _ (classes : ℕ) (records : List Record) (within : AreWithin classes rec
           go : (b : Bool) → is_ranked (kept keep) records (length records) c ≡ b → is_ranked (kept keep) records (length records) c ≡ true
           go true e = e
           go false e =
-              let a = and_true (kept keep c) (nat_lt 0 (slice_index ranks c)) (sym (d.left c) ∙ h) in
+              let a = and_parts (kept keep c) (nat_lt 0 (slice_index ranks c)) (sym (d.left c) ∙ h) in
               let n = rank_none (kept keep) records (length records) c e in
               absurd (let l = positive (slice_index ranks c) a.1 in omega (arith, l, told c, n))
 

@@ -1,19 +1,16 @@
 -- The marks after the last round are the ranks and picks.
-use Rattle.std.proofs.Common.{◌≡◌, ℕ, zero, suc, ◌+◌, ◌-◌, ◌<◌, ◌≤◌, Bool, true, false, cond, nat_lt, List, [], ◌∷◌, ◌++◌, length, refl, sym, ap, subst, ◌∙◌, ⊎_elim, arith}
+use Rattle.std.proofs.Common.{◌≡◌, ℕ, zero, suc, ◌+◌, ◌-◌, ◌<◌, ◌≤◌, Bool, true, false, cond, nat_lt, List, [], ◌∷◌, length, refl, sym, ap, subst, ◌∙◌, ⊎_elim, arith}
 use Rattle.std.specs.Prelude.{Some, None, Option, unwrap_or, find}
 use Rattle.std.specs.List.{range_with_len}
 use Rattle.std.specs.Option.{option_or}
 use Rattle.std.proofs.lemmas.List.Folds.{find-append}
 use Rattle.css_domain.specs.declared.record.Record.{Record}
 use Rattle.css_domain.specs.Standing.{is_ranked, rank_of, pick_of}
-use Rattle.css_domain.proofs.Ways.{less_or_whole}
 use Rattle.css_prune.specs.Marks.{giver, rank_after, pick_after}
 use Rattle.css_prune.proofs.Rounds.{ranked_next, IsStable, stable_from, ranked_by_end}
 use Rattle.css_prune.proofs.Marks.{giver_within, old_mark, rank_none, pick_none, rank_some, none_before, whole_mark}
-
-pub range_more : (a n : ℕ) → range_with_len a (suc n) ≡ range_with_len a n ++ (a + n) ∷ []
-range_more a zero = let e : a + 0 ≡ a = omega arith in rw e refl
-range_more a (suc n) = let e : a + suc n ≡ a + 1 + n = omega arith in rw e (ap (λ (xs : List ℕ). a ∷ xs) (range_more (a + 1) n))
+use Rattle.lists.proofs.Ranges.{range_more}
+use Rattle.lists.proofs.Numbers.{less_or_whole}
 
 first_kept : (o p : Option ℕ) → 0 < unwrap_or o 0 → unwrap_or (option_or o p) 0 ≡ unwrap_or o 0
 first_kept None p h = absurd (omega (arith, h))

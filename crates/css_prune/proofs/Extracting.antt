@@ -1,30 +1,29 @@
 -- Entries from picks.
-use Rattle.std.proofs.Common.{◌≡◌, ℕ, zero, suc, ◌+◌, ◌-◌, ◌<◌, ◌≤◌, Bool, true, List, [], ◌∷◌, ◌++◌, length, take, nat_lt, refl, sym, ap, subst, ◌∙◌, arith}
+use Rattle.std.proofs.Common.{◌≡◌, ℕ, suc, ◌+◌, ◌-◌, ◌<◌, ◌≤◌, Bool, true, List, [], ◌∷◌, ◌++◌, length, nat_lt, refl, sym, ap, subst, ◌∙◌, arith}
 use Rattle.std.specs.Prelude.{◌==◌, nat_eq, IsTrue, map, slice_get, slice_index, Some}
 use Rattle.std.specs.List.{AllZip, position_or_len, list_any}
 use Rattle.std.proofs.lemmas.List.{length-map}
-use Rattle.std.proofs.lemmas.Bool.{eqb-true}
 use Rattle.std.proofs.lemmas.Bool.Decides.{nat_tests}
-use Rattle.patterns.specs.Parts.{IsIn}
 use Rattle.css_domain.specs.declared.record.Record.{Record}
 use Rattle.css_domain.specs.Records.{numbers}
 use Rattle.css_domain.specs.Meanings.{Meaning}
 use Rattle.css_domain.specs.Added.{order_from}
 use Rattle.css_domain.specs.Ledgers.{Books, classes, records}
 use Rattle.css_domain.specs.LedgerFacts.{IsLedger}
-use Rattle.css_domain.specs.Standing.{TellsStanding, is_ranked, rank_of, pick_of}
+use Rattle.css_domain.specs.Standing.{is_ranked, rank_of, pick_of}
 use Rattle.css_domain.specs.Entries.{Entry, IsPickOf, Picked, IsSpec, picked_children, children_at}
-use Rattle.css_domain.proofs.Determined.{IsIn-slice_get, at_place}
-use Rattle.css_domain.proofs.Finding.{place_of, map_same, map-map, same_number}
 use Rattle.css_prune.specs.declared.pruned.Pruned.{Pruned}
 use Rattle.css_prune.specs.Pruning.{kept, IsPruned}
 use Rattle.css_prune.specs.Marks.{giver}
-use Rattle.css_prune.specs.Places.{mark, ArePlaces, IsGuide, calls}
+use Rattle.css_prune.specs.Places.{ArePlaces, IsGuide, calls}
 use Rattle.css_prune.specs.Extracting.{IsReady}
 use Rattle.css_prune.proofs.Marks.{giver_within}
 use Rattle.css_prune.proofs.Ends.{ranked_at_rank, ends_rank}
 use Rattle.css_prune.proofs.Supports.{in_at_slot}
 use Rattle.css_prune.proofs.Picks.{ranked, pick_is, child_kept, kept_below, all_kept, any_in_order, picked_is_spec, picked_few}
+use Rattle.lists.proofs.Places.{at_place, place_of}
+use Rattle.lists.proofs.Maps.{map-agree, map-map}
+use Rattle.lists.specs.Members.{IsIn}
 
 pub zip_push : {A B : Type 0} (P : A → B → Type 0) (xs : List A) (ys : List B) (x : A) (y : B) → AllZip P xs ys → P x y → AllZip P (xs ++ x ∷ []) (ys ++ y ∷ [])
 zip_push P [] [] x y z p = (p, tt)
@@ -130,6 +129,6 @@ module _ {C R : Type 0} (D : Meaning C R) (l : Books C R) (K : ℕ → Bool) (or
         rule = ap (slice_get l.rules) (sym is.pick) ∙ rule;
         by_record = item;
         recorded = recorded;
-        children = children ∙ sym (map-map {Y = ℕ} (λ (d : ℕ). slice_index places d - 1) (λ (child : ℕ × Bool). child.0) item.children) ∙ map_same (λ (d : ℕ). slice_index places d - 1) (λ d. position_or_len (λ o. d == o) order) (numbers item) (λ d i. let e = is.child d (subst (λ xs. IsIn d xs) (sym children_are) i) in omega (arith, e));
+        children = children ∙ sym (map-map {Y = ℕ} (λ (d : ℕ). slice_index places d - 1) (λ (child : ℕ × Bool). child.0) item.children) ∙ map-agree (λ (d : ℕ). slice_index places d - 1) (λ d. position_or_len (λ o. d == o) order) (numbers item) (λ d i. let e = is.child d (subst (λ xs. IsIn d xs) (sym children_are) i) in omega (arith, e));
         rank = rank ∙ is.rank;
       }

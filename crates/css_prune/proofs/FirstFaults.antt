@@ -1,23 +1,20 @@
 -- Entries one by one, as far as the first fault.
-use Rattle.std.proofs.Common.{◌≡◌, ℕ, zero, suc, ◌+◌, ◌<◌, ◌≤◌, Bool, true, false, List, [], ◌∷◌, length, take, get_or, refl, sym, ap, subst, ◌∙◌, ⊎_elim, arith}
+use Rattle.std.proofs.Common.{◌≡◌, ℕ, zero, suc, ◌+◌, ◌<◌, ◌≤◌, Bool, true, false, List, [], ◌∷◌, length, get_or, refl, sym, ap, subst, ◌∙◌, ⊎_elim, arith}
 use Rattle.std.specs.Prelude.{Option, ◌⊎◌, ◌≢◌, ◌&&◌, ◌==◌, not, nat_lt, map, remove, slice_get, slice_index, Some, IsTrue}
 use Rattle.std.specs.List.{list_any, list_all}
-use Rattle.std.proofs.lemmas.Bool.{eqb-true}
+use Rattle.std.proofs.lemmas.Bool.{eqb-true, eq-eqb, and_from}
 use Rattle.std.proofs.lemmas.Bool.Decides.{nat_tests}
 use Rattle.std.proofs.lemmas.List.Folds.{list_all_at}
 use Rattle.std.proofs.lemmas.Option.{slice_get_within}
-use Rattle.patterns.specs.Parts.{IsIn, NoRepeats}
-use Rattle.lists.specs.Members.IsIn.{here, later}
 use Rattle.lists.specs.Members.NoRepeats.{no_element, one_more}
-use Rattle.patterns.proofs.Booleans.{both_true}
-use Rattle.patterns.proofs.Lists.{from_IsIn-map}
+use Rattle.lists.proofs.Places.{at_place, place_of}
+use Rattle.lists.proofs.Numbers.{less_or_whole}
+use Rattle.lists.proofs.Tests.{which_passes, some_passes}
+use Rattle.lists.specs.Members.{IsIn, NoRepeats}
+use Rattle.lists.proofs.Members.{from_IsIn-map}
 use Rattle.css_domain.specs.Meanings.{Meaning}
-use Rattle.css_domain.specs.Entries.{Entry, IsSpec, IsLinked, IsNamed, IsCalled, can_keep_length}
-use Rattle.css_domain.proofs.Determined.{IsIn-slice_get, at_place}
-use Rattle.css_domain.proofs.Finding.{place_of, same_number}
-use Rattle.css_domain.proofs.Ways.{less_or_whole}
-use Rattle.css_prune.specs.Faults.{EachBefore, IsMatched, IsRepeated, IsRuleRight, IsRankRight, AreRanksRight}
-use Rattle.css_prune.proofs.Passing.{passes, any_by}
+use Rattle.css_domain.specs.Entries.{Entry, IsSpec}
+use Rattle.css_prune.specs.Faults.{EachBefore, IsMatched, IsRuleRight, AreRanksRight}
 
 pub never : {P : Type 0} → IsTrue false → P
 never t = absurd cc
@@ -29,7 +26,7 @@ pub same_some : {X : Type 0} {x y : X} {o : Option X} → o ≡ Some x → o ≡
 same_some a b = cc
 
 pub some_there : (n m : ℕ) → (n == 0) ≡ false → n ≡ m → 0 < m
-some_there n zero h s = absurd (let t = same_number n 0 s in cc)
+some_there n zero h s = absurd (let t = eq-eqb n 0 s in cc)
 some_there n (suc m) h s = omega arith
 
 -- one place more
@@ -39,9 +36,6 @@ before_more P xs j x at p before k y less there =
     (λ e. subst (λ i. P i y) (sym e) (subst (λ z. P j z) (same_some at (subst (λ i. slice_get xs i ≡ Some y) e there)) p))
     (less_or_whole k j (omega (arith, less)))
 
-pub slot_more : (P : ℕ → Type 0) (n : ℕ) → ((s : ℕ) → s < n → P s) → P n → (s : ℕ) → s < n + 1 → P s
-slot_more P n before p s less = ⊎_elim {C = P s} (before s) (λ e. subst P (sym e) p) (less_or_whole s n (omega (arith, less)))
-
 -- ---- a number among others
 pub number_at : (xs : List ℕ) (i : ℕ) → i < length xs → slice_get xs i ≡ Some (get_or xs i 0)
 number_at [] i h = absurd (omega (arith, h))
@@ -49,10 +43,10 @@ number_at (x ∷ xs) zero h = refl
 number_at (x ∷ xs) (suc i) h = number_at xs i (omega (arith, h))
 
 pub from_any : (x : ℕ) (xs : List ℕ) → list_any (λ y. y == x) xs ≡ true → IsIn x xs
-from_any x xs h = let p = passes (λ y. y == x) xs h in subst (λ z. IsIn z xs) (eqb-true p.0 x p.2) p.1
+from_any x xs h = let p = which_passes (λ y. y == x) xs h in subst (λ z. IsIn z xs) (eqb-true p.0 x p.2) p.1
 
 pub any_from : (x : ℕ) (xs : List ℕ) → IsIn x xs → list_any (λ y. y == x) xs ≡ true
-any_from x xs i = any_by (λ y. y == x) i (same_number x x refl)
+any_from x xs i = some_passes (λ y. y == x) i (eq-eqb x x refl)
 
 -- ---- flags but one
 pub mapped_at : {X : Type 0} (f : X → Bool) (xs : List X) (i : ℕ) (x : X) → slice_get xs i ≡ Some x → get_or (map f xs) i false ≡ f x
@@ -62,14 +56,14 @@ mapped_at f (y ∷ xs) (suc i) x h = mapped_at f xs i x h
 
 all_unset : (fs : List Bool) → ((s : ℕ) → s < length fs → get_or fs s false ≡ false) → list_all not fs ≡ true
 all_unset [] h = refl
-all_unset (f ∷ fs) h = both_true (not f) (list_all not fs) (ap not (h 0 (omega arith))) (all_unset fs (λ s l. h (suc s) (omega (arith, l))))
+all_unset (f ∷ fs) h = and_from (not f) (list_all not fs) (ap not (h 0 (omega arith))) (all_unset fs (λ s l. h (suc s) (omega (arith, l))))
 
 pub none_but_slot : (fs : List Bool) (slot : ℕ) → ((s : ℕ) → s < length fs → s ≢ slot → get_or fs s false ≡ false) → list_all not (remove fs slot) ≡ true
 none_but_slot [] zero h = refl
 none_but_slot [] (suc slot) h = refl
 none_but_slot (f ∷ fs) zero h = all_unset fs (λ s l. h (suc s) (omega (arith, l)) (λ e. omega (arith, e)))
 none_but_slot (f ∷ fs) (suc slot) h =
-    both_true (not f) (list_all not (remove fs slot)) (ap not (h 0 (omega arith) (λ e. omega (arith, e))))
+    and_from (not f) (list_all not (remove fs slot)) (ap not (h 0 (omega arith) (λ e. omega (arith, e))))
     (none_but_slot fs slot (λ s l o. h (suc s) (omega (arith, l)) (λ e. o (omega (arith, e)))))
 
 and_none : (b : Bool) → (b && false) ≡ false

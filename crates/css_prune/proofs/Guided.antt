@@ -1,15 +1,16 @@
 -- Along the picks of kept classes.
-use Rattle.std.proofs.Common.{◌≡◌, ℕ, zero, suc, ◌+◌, ◌<◌, ◌≤◌, Bool, true, false, List, [], ◌∷◌, length, replicate, get_or, refl, sym, ap, subst, ◌∙◌, arith}
-use Rattle.std.specs.Prelude.{nat_eq, slice_get, slice_index, map, Some, None}
+use Rattle.std.proofs.Common.{◌≡◌, ℕ, suc, ◌+◌, ◌<◌, Bool, true, List, [], length, replicate, get_or, sym, ap, subst, ◌∙◌, arith}
+use Rattle.std.specs.Prelude.{nat_eq, slice_get, slice_index, Some}
 use Rattle.std.proofs.lemmas.List.{get_or-replicate, length-replicate}
 use Rattle.std.proofs.lemmas.Option.{slice_get_within}
-use Rattle.patterns.specs.Parts.{IsIn}
 use Rattle.lists.specs.Members.NoRepeats.{no_element}
+use Rattle.lists.specs.Added.{with_all_new}
+use Rattle.lists.proofs.Places.{IsIn-slice_get}
+use Rattle.lists.specs.Members.{IsIn}
 use Rattle.css_domain.specs.declared.record.Record.{Record}
 use Rattle.css_domain.specs.Records.{numbers}
-use Rattle.css_domain.specs.Added.{with_all_new, with_children, order_from}
+use Rattle.css_domain.specs.Added.{with_children, order_from}
 use Rattle.css_domain.specs.Entries.{children_at}
-use Rattle.css_domain.proofs.Determined.{IsIn-slice_get}
 use Rattle.css_prune.proofs.Supports.{in_at_slot}
 use Rattle.css_domain.proofs.Orders.{order_all}
 use Rattle.css_prune.specs.Places.{IsGuide, calls, ArePlaces}

@@ -1,38 +1,35 @@
 -- The picked specification of a ledger is valid.
-use Rattle.std.proofs.Common.{◌≡◌, ℕ, zero, suc, ◌+◌, ◌-◌, ◌<◌, ◌≤◌, Bool, true, false, cond, nat_lt, List, [], ◌∷◌, length, get_or, refl, sym, ap, subst, ◌∙◌, inl, inr, ⊎_elim, arith}
-use Rattle.std.specs.Prelude.{◌⊎◌, ◌&&◌, ◌||◌, ◌==◌, not, nat_eq, IsTrue, map, slice_get, slice_index, Some, None, Option}
-use Rattle.std.specs.List.{list_any, list_all, range_with_len, position_or_len, AllZip}
-use Rattle.std.proofs.lemmas.Bool.{eqb-true}
+use Rattle.std.proofs.Common.{◌≡◌, ℕ, suc, ◌-◌, ◌<◌, ◌≤◌, Bool, true, cond, nat_lt, List, [], ◌∷◌, length, refl, sym, ap, subst, ◌∙◌, arith}
+use Rattle.std.specs.Prelude.{◌&&◌, ◌||◌, ◌==◌, not, nat_eq, IsTrue, map, slice_get, slice_index, Some, None, Option}
+use Rattle.std.specs.List.{list_any, list_all, position_or_len, AllZip}
+use Rattle.std.proofs.lemmas.Bool.{eqb-true, eq-eqb, and_parts}
 use Rattle.std.proofs.lemmas.List.{length-map}
 use Rattle.std.proofs.lemmas.Option.{slice_get_within}
-use Rattle.patterns.specs.Parts.{IsIn, NoRepeats}
-use Rattle.lists.specs.Members.IsIn.{here, later}
+use Rattle.std.proofs.lemmas.Slice.Zip.{AllZip-long}
+use Rattle.lists.specs.Members.IsIn.{here}
 use Rattle.lists.specs.Members.NoRepeats.{no_element, one_more}
-use Rattle.patterns.proofs.Booleans.{and_true}
-use Rattle.patterns.proofs.Lists.{IsIn-map, from_IsIn-map}
-use Rattle.patterns.proofs.NoRepeat.{in_range_with_len}
+use Rattle.lists.proofs.Places.{IsIn-slice_get, at_place, found_at, get-map, index_is, zip_at, zip_back, place_of}
+use Rattle.lists.proofs.Added.{position_of}
+use Rattle.lists.proofs.Tests.{each_passes}
+use Rattle.lists.specs.Members.{IsIn, NoRepeats}
+use Rattle.lists.proofs.Members.{IsIn-map, from_IsIn-map}
+use Rattle.lists.proofs.Ranges.{in_range_with_len}
 use Rattle.css_domain.specs.declared.record.Record.{Record}
-use Rattle.css_domain.specs.Records.{numbers, flags, has_same_length}
+use Rattle.css_domain.specs.Records.{numbers, has_same_length}
 use Rattle.css_domain.specs.Shapes.{is_same_length}
 use Rattle.css_domain.specs.Meanings.{Meaning}
 use Rattle.css_domain.specs.Added.{order_from}
-use Rattle.css_domain.specs.Ledgers.{Books, filings, classes, records, record_of, done}
+use Rattle.css_domain.specs.Ledgers.{Books, classes, records, record_of}
 use Rattle.css_domain.specs.LedgerFacts.{IsLedger}
-use Rattle.css_domain.specs.Standing.{Stands, TellsStanding, gives, is_ranked, rank_of, pick_of, each_same_length}
+use Rattle.css_domain.specs.Standing.{TellsStanding, gives, is_ranked, rank_of, pick_of, each_same_length}
 use Rattle.css_domain.specs.Entries.{Entry, IsPickOf, Picked, ValidSpec, IsSpec, AllHold, IsLinked, IsNamed, IsCalled, picked_children, children_at, can_keep_length}
-use Rattle.css_domain.proofs.Determined.{IsIn-slice_get, at_place}
 use Rattle.css_domain.proofs.StandingLaws.{stands_by}
-use Rattle.css_domain.proofs.Growing.{position_of}
-use Rattle.css_domain.proofs.Finding.{same_number}
-use Rattle.css_domain.proofs.Finding.{found_at}
-use Rattle.css_prune.specs.Marks.{gives_next, giver, rank_after}
-use Rattle.css_prune.proofs.Passing.{each_passes}
+use Rattle.css_prune.specs.Marks.{giver}
 use Rattle.css_prune.proofs.Marks.{giver_within, giver_gives, rank_some}
 use Rattle.css_prune.proofs.Ends.{rank_stays, ranked_at_rank, ends_rank, picks_by_giver}
 use Rattle.css_prune.proofs.Supports.{ranked_if_stands, from_unless}
 use Rattle.css_domain.proofs.Orders.{order_distinct, order_all, order_closed, order_called, order_short, order_first}
 use Rattle.css_domain.proofs.Within.{rule_holds, parent_at, child_at, rule_at, numbers_of, flags_of, parent_below}
-use Rattle.css_domain.proofs.Finding.{get-map, index_is, zip_at, zip_back, place_of}
 
 -- distinct numbers have distinct classes
 pub distinct_classes : {A B : Type 0} (class : B → A) (all : List A) → ((i j : ℕ) (x : A) → slice_get all i ≡ Some x → slice_get all j ≡ Some x → i ≡ j) → (cs : List ℕ) (es : List B) → AllZip (λ c e. slice_get all c ≡ Some (class e)) cs es → NoRepeats cs → NoRepeats (map class es)
@@ -48,12 +45,6 @@ distinct_classes {A} {B} class all one (c ∷ cs) (e ∷ es) z (one_more out n) 
     let same : c ≡ q.0 = one c q.0 (class e) z.0 (q.2 ∙ ap Some (sym f.2)) in
     out (subst (λ d. IsIn d cs) (sym same) (IsIn-slice_get cs p.0 q.0 q.1)))
     (distinct_classes class all one cs es z.1 n)
-
-zip_length : {A B : Type 0} (P : A → B → Type 0) (xs : List A) (ys : List B) → AllZip P xs ys → length ys ≡ length xs
-zip_length P [] [] z = refl
-zip_length P [] (y ∷ ys) z = absurd z
-zip_length P (x ∷ xs) [] z = absurd z
-zip_length P (x ∷ xs) (y ∷ ys) z = ap suc (zip_length P xs ys z.1)
 
 zip_weaker : {A B : Type 0} (P Q : A → B → Type 0) (xs : List A) (ys : List B) → ((x : A) (y : B) → P x y → Q x y) → AllZip P xs ys → AllZip Q xs ys
 zip_weaker P Q [] [] f z = z
@@ -84,7 +75,7 @@ module _ {C R : Type 0} (D : Meaning C R) (own : (c : C) → D.same c c ≡ true
       picks_by_giver K rs c ∙ ap (λ b. cond b (giver K rs (rank_of K rs c - 1) c) 0) t
 
   pub pick_gives : (c : ℕ) (r : Record) → K c ≡ true → slice_get rs (pick_of K rs c) ≡ Some r → gives K rs (λ d. is_ranked K rs (rank_of K rs c - 1) d) c r ≡ true
-  pick_gives c r h at = (and_true (K c) (gives K rs (λ d. is_ranked K rs (rank_of K rs c - 1) d) c r) (giver_gives K rs (rank_of K rs c - 1) (pick_of K rs c) c r at (sym (pick_is c h)))).1
+  pick_gives c r h at = (and_parts (K c) (gives K rs (λ d. is_ranked K rs (rank_of K rs c - 1) d) c r) (giver_gives K rs (rank_of K rs c - 1) (pick_of K rs c) c r at (sym (pick_is c h)))).1
 
   pub child_kept : (c : ℕ) → K c ≡ true → (d : ℕ) → IsIn d (ch c) → K d ≡ true
   child_kept c h d i = go (slice_get rs (pick_of K rs c)) refl i
@@ -93,9 +84,9 @@ module _ {C R : Type 0} (D : Meaning C R) (own : (c : C) → D.same c c ≡ true
       go None e j = elim j [ ]
       go (Some r) e j =
           let g = pick_gives c r h e in
-          let a = and_true (r.parent == c) (list_all K (numbers r) && each_same_length r (λ d. is_ranked K rs (rank_of K rs c - 1) d)) g in
-          let b = and_true (list_all K (numbers r)) (each_same_length r (λ d. is_ranked K rs (rank_of K rs c - 1) d)) a.1 in
-          each_passes K j b.0
+          let a = and_parts (r.parent == c) (list_all K (numbers r) && each_same_length r (λ d. is_ranked K rs (rank_of K rs c - 1) d)) g in
+          let b = and_parts (list_all K (numbers r)) (each_same_length r (λ d. is_ranked K rs (rank_of K rs c - 1) d)) a.1 in
+          each_passes K b.0 j
 
   pub kept_below : (c : ℕ) → K c ≡ true → c < length (classes D l)
   kept_below c h =
@@ -139,12 +130,12 @@ module _ {C R : Type 0} (D : Meaning C R) (own : (c : C) → D.same c c ≡ true
         given = pick_gives c p.by_record c_kept p.recorded
 
         own_number : p.by_record.parent ≡ c
-        own_number = eqb-true p.by_record.parent c (and_true (p.by_record.parent == c) (list_all K (numbers p.by_record) && each_same_length p.by_record (λ d. is_ranked K rs (rank_of K rs c - 1) d)) given).0
+        own_number = eqb-true p.by_record.parent c (and_parts (p.by_record.parent == c) (list_all K (numbers p.by_record) && each_same_length p.by_record (λ d. is_ranked K rs (rank_of K rs c - 1) d)) given).0
 
         lower : each_same_length p.by_record (λ d. is_ranked K rs (rank_of K rs c - 1) d) ≡ true
         lower =
-            let a = and_true (p.by_record.parent == c) (list_all K (numbers p.by_record) && each_same_length p.by_record (λ d. is_ranked K rs (rank_of K rs c - 1) d)) given in
-            (and_true (list_all K (numbers p.by_record)) (each_same_length p.by_record (λ d. is_ranked K rs (rank_of K rs c - 1) d)) a.1).1
+            let a = and_parts (p.by_record.parent == c) (list_all K (numbers p.by_record) && each_same_length p.by_record (λ d. is_ranked K rs (rank_of K rs c - 1) d)) given in
+            (and_parts (list_all K (numbers p.by_record)) (each_same_length p.by_record (λ d. is_ranked K rs (rank_of K rs c - 1) d)) a.1).1
 
         own_class : D.parent e.rule ≡ e.class
         own_class =
@@ -181,7 +172,7 @@ module _ {C R : Type 0} (D : Meaning C R) (own : (c : C) → D.same c c ≡ true
                   let long : length (numbers p.by_record) ≡ length p.by_record.children = length-map p.by_record.children (λ (x : ℕ × Bool). x.0) in
                   let w = slice_get_within (numbers p.by_record) slot d at_numbers in
                   let flag : has_same_length p.by_record slot ≡ can_keep_length D e.rule slot = ap (λ r. has_same_length r slot) record_is ∙ ap (λ fs. is_same_length (D.shape e.rule) fs slot) (flags_of D own exact l is e.rule) in
-                  let here = from_unless (has_same_length p.by_record slot) (is_ranked K rs (rank_of K rs c - 1) (slice_index (numbers p.by_record) slot)) (each_passes (λ s. not (has_same_length p.by_record s) || is_ranked K rs (rank_of K rs c - 1) (slice_index (numbers p.by_record) s)) (in_range_with_len 0 (length p.by_record.children) slot (omega arith) (omega (arith, w, long))) lower) (flag ∙ t) in
+                  let here = from_unless (has_same_length p.by_record slot) (is_ranked K rs (rank_of K rs c - 1) (slice_index (numbers p.by_record) slot)) (each_passes (λ s. not (has_same_length p.by_record s) || is_ranked K rs (rank_of K rs c - 1) (slice_index (numbers p.by_record) s)) lower (in_range_with_len 0 (length p.by_record.children) slot (omega arith) (omega (arith, w, long)))) (flag ∙ t) in
                   let there_d = subst (λ m. is_ranked K rs (rank_of K rs c - 1) m ≡ true) (index_is (numbers p.by_record) slot d at_numbers) here in
                   let some = rank_is c c_kept in
                   let low = rank_some K rs (rank_of K rs c - 1) d there_d in
@@ -202,7 +193,7 @@ module _ {C R : Type 0} (D : Meaning C R) (own : (c : C) → D.same c c ≡ true
           let r = order_called root ch (length (classes D l)) i b.0 some b.1 in
           let z = zip_at (λ c e. IsPickOf D l K order c e) order entries r.0 r.1 picks r.3 in
           let in_numbers = subst (λ xs. IsIn b.0 xs) (children_are r.0 r.1 z.0 r.3 z.2) r.4 in
-          let place = (position_of nat_eq (λ n. same_number n n refl) (λ a b e. eqb-true a b e) order i b.0 (order_distinct root ch (length (classes D l))) b.1).0 in
+          let place = (position_of nat_eq (λ n. eq-eqb n n refl) (λ a b e. eqb-true a b e) order i b.0 (order_distinct root ch (length (classes D l))) b.1).0 in
           let named : IsIn (position_or_len (nat_eq b.0) order) z.0.children = subst (λ xs. IsIn (position_or_len (nat_eq b.0) order) xs) (sym z.2.children) (IsIn-map (λ d. position_or_len (λ o. d == o) order) in_numbers) in
           record { j = r.0; earlier = r.2; by = z.0; there = z.1; names = subst (λ n. IsIn n z.0.children) place named }
 
@@ -229,7 +220,7 @@ module _ {C R : Type 0} (D : Meaning C R) (own : (c : C) → D.same c c ≡ true
       picked_hold e i = let p = picked_at e i in rule_in_holds p.0 p.1 e p.2 p.3
 
       pub picked_few : length entries ≤ length (classes D l)
-      picked_few = (let e = zip_length (λ c e. IsPickOf D l K order c e) order entries picks in omega (arith, e, short))
+      picked_few = (let e = AllZip-long (λ c e. IsPickOf D l K order c e) order entries picks in omega (arith, e, short))
 
 -- the picked specification of a ledger is valid
 pub picked_is_valid : {C R : Type 0} (D : Meaning C R) → ((c : C) → D.same c c ≡ true) → ((a b : C) → D.same a b ≡ true → a ≡ b) → (l : Books C R) (root : ℕ) (entries : List (Entry C R)) (c : C) → IsLedger D l → Picked D l root entries → slice_get (classes D l) root ≡ Some c → ValidSpec D entries c

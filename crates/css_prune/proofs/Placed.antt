@@ -1,26 +1,27 @@
 -- One class more in the order.
-use Rattle.std.proofs.Common.{◌≡◌, ℕ, zero, suc, ◌+◌, ◌<◌, ◌≤◌, Bool, true, false, cond, List, [], ◌∷◌, ◌++◌, length, get_or, take, length-append, refl, sym, ap, subst, ◌∙◌, inl, inr, ⊎_elim, arith, get_or-set_other}
-use Rattle.std.specs.Prelude.{◌⊎◌, ◌≢◌, ◌||◌, ◌==◌, nat_eq, slice_get, slice_set, slice_index, map, Some, None}
+use Rattle.std.proofs.Common.{◌≡◌, ℕ, zero, suc, ◌+◌, ◌<◌, ◌≤◌, Bool, true, false, cond, List, [], ◌∷◌, ◌++◌, length, get_or, take, refl, sym, ap, subst, ◌∙◌, inl, inr, ⊎_elim, arith, get_or-set_other}
+use Rattle.std.specs.Prelude.{◌⊎◌, ◌==◌, nat_eq, slice_get, slice_set, slice_index, map, Some, None}
 use Rattle.std.specs.List.{list_any, position_or_len, range_with_len}
-use Rattle.std.proofs.lemmas.Bool.{eqb-true}
+use Rattle.std.proofs.lemmas.Bool.{eqb-true, eq-eqb}
 use Rattle.std.proofs.lemmas.Grind.{get_or-set_at}
 use Rattle.std.proofs.lemmas.List.Folds.{list_any-append}
 use Rattle.std.proofs.lemmas.List.FromFn.{length-range_with_len}
-use Rattle.patterns.specs.Parts.{IsIn, NoRepeats}
 use Rattle.lists.specs.Members.IsIn.{here, later}
-use Rattle.lists.specs.Members.NoRepeats.{no_element, one_more}
-use Rattle.patterns.proofs.Booleans.{or_end, or_all}
-use Rattle.patterns.proofs.Lists.{IsIn-append_cases, length-le_from_injection}
-use Rattle.patterns.proofs.NoRepeat.{in_range_with_len}
-use Rattle.css_domain.specs.Added.{with_new, with_all_new, with_children, order_from}
-use Rattle.css_domain.proofs.Growing.{position_stays, position_new, position_added, all_distinct, all_new_append}
-use Rattle.css_domain.proofs.Finding.{same_number, same_or_other}
+use Rattle.lists.specs.Added.{with_new, with_all_new}
+use Rattle.lists.proofs.Added.{position_stays, position_new, position_added, all_distinct, all_new_append}
+use Rattle.lists.proofs.Numbers.{less_or_whole}
+use Rattle.lists.specs.Members.{IsIn, NoRepeats}
+use Rattle.lists.proofs.Members.{IsIn-append_cases}
+use Rattle.lists.proofs.Injections.{length-le_from_injection}
+use Rattle.lists.proofs.Ranges.{in_range_with_len}
+use Rattle.css_domain.specs.Added.{with_children, order_from}
+use Rattle.css_domain.proofs.Finding.{same_or_other}
 use Rattle.std.proofs.lemmas.Option.{slice_get_past}
-use Rattle.css_domain.proofs.Ways.{less_or_whole}
+use Rattle.std.proofs.Math.Bool.{or-false, or-true}
 use Rattle.css_prune.specs.Places.{mark, ArePlaces}
 
 own : (n : ℕ) → nat_eq n n ≡ true
-own n = same_number n n refl
+own n = eq-eqb n n refl
 
 length-set_number : (xs : List ℕ) (i v : ℕ) → length (slice_set xs i v) ≡ length xs
 length-set_number [] i v = refl
@@ -46,7 +47,7 @@ mark_some order d h = go (list_any (nat_eq d) order) refl h
 
 mark_new : (order : List ℕ) (d : ℕ) → list_any (nat_eq d) order ≡ false → mark (order ++ d ∷ []) d ≡ suc (length order)
 mark_new order d h =
-    let a : list_any (nat_eq d) (order ++ d ∷ []) ≡ true = list_any-append (nat_eq d) order (d ∷ []) ∙ rw (own d) (or_all (list_any (nat_eq d) order)) in
+    let a : list_any (nat_eq d) (order ++ d ∷ []) ≡ true = list_any-append (nat_eq d) order (d ∷ []) ∙ rw (own d) (or-true (list_any (nat_eq d) order)) in
     let p : position_or_len (nat_eq d) (order ++ d ∷ []) ≡ length order = at_end order h in
     rw (a, p) refl
   where
@@ -64,7 +65,7 @@ mark_other order d e o = go (list_any (nat_eq d) order) refl
         at false f = f
 
     any : list_any (nat_eq d) (order ++ e ∷ []) ≡ list_any (nat_eq d) order
-    any = list_any-append (nat_eq d) order (e ∷ []) ∙ rw differs (or_end (list_any (nat_eq d) order))
+    any = list_any-append (nat_eq d) order (e ∷ []) ∙ rw differs (or-false (list_any (nat_eq d) order))
 
     go : (b : Bool) → list_any (nat_eq d) order ≡ b → mark (order ++ e ∷ []) d ≡ mark order d
     go true f = let p = position_stays nat_eq d order (e ∷ []) f in rw (any, f, p) refl
@@ -104,11 +105,6 @@ order_stops root ch i e (suc m) h =
     ap (with_children ch (order_from root ch m)) none ∙ s)
     (λ s. rw s refl)
     (less_or_whole i (suc m) h)
-
-pub some_at : {X : Type 0} (xs : List X) (i : ℕ) (x : X) → i < length xs → x ≡ get_or xs i x → slice_get xs i ≡ Some x
-some_at [] i x h e = absurd (omega (arith, h))
-some_at (y ∷ xs) zero x h e = ap Some (sym e)
-some_at (y ∷ xs) (suc i) x h e = some_at xs i x (omega (arith, h)) e
 
 pub number_at : (children : List (ℕ × Bool)) (i : ℕ) → i < length children → slice_get (map (λ (c : ℕ × Bool). c.0) children) i ≡ Some (get_or {A = ℕ × Bool} children i (0, false)).0
 number_at [] i h = absurd (omega (arith, h))

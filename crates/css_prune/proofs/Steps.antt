@@ -1,18 +1,14 @@
 -- One record more in a round.
-use Rattle.std.proofs.Common.{◌≡◌, ℕ, zero, suc, ◌+◌, ◌<◌, ◌≤◌, Bool, true, false, nat_lt, List, [], ◌∷◌, ◌++◌, length, get_or, take, drop, refl, sym, ap, subst, ◌∙◌, inl, inr, ⊎_elim, arith, get_or-set_other}
+use Rattle.std.proofs.Common.{◌≡◌, ℕ, suc, ◌+◌, ◌<◌, ◌≤◌, Bool, true, false, nat_lt, List, length, get_or, refl, sym, ap, subst, ◌∙◌, inl, inr, ⊎_elim, arith, get_or-set_other}
 use Rattle.std.specs.Prelude.{◌&&◌, ◌⊎◌, ◌==◌, ◌≢◌, slice_get, slice_set, slice_index, Some}
 use Rattle.std.specs.List.{list_all}
-use Rattle.std.proofs.lemmas.Bool.{eqb-true}
+use Rattle.std.proofs.lemmas.Bool.{eqb-true, cases_lt, eq-eqb, and_parts}
 use Rattle.std.proofs.lemmas.Grind.{get_or-set_at}
-use Rattle.std.proofs.Math.Seq.{take-append_seam}
-use Rattle.patterns.proofs.Booleans.{and_true}
 use Rattle.css_domain.specs.declared.record.Record.{Record}
 use Rattle.css_domain.specs.Records.{numbers}
 use Rattle.css_domain.specs.Standing.{gives, is_ranked, each_same_length}
 use Rattle.css_prune.specs.Marks.{gives_next, gives_mark, giver, mark, rank_after, pick_after, has_rank_below, AreMarks, AreAfter, AreRanks, IsGiven, IsSkipped}
-use Rattle.css_prune.proofs.Passing.{there_or_past}
 use Rattle.css_prune.proofs.Marks.{old_mark, new_mark, no_mark, same_mark, giver_gives, giver_not_past, lower_is_ranked, rank_start, pick_start, rank_some}
-use Rattle.css_prune.proofs.Supports.{same_number}
 use Rattle.css_prune.proofs.Ends.{stable_if_same, stays, ends_rank, ends_pick}
 
 pub same_or_other : (a b : ℕ) → (a ≡ b) ⊎ (a ≢ b)
@@ -20,7 +16,7 @@ same_or_other a b = go (a == b) refl
   where
     go : (t : Bool) → (a == b) ≡ t → (a ≡ b) ⊎ (a ≢ b)
     go true e = inl (eqb-true a b e)
-    go false e = inr (λ s. absurd (let f = same_number a b s in cc))
+    go false e = inr (λ s. absurd (let f = eq-eqb a b s in cc))
 
 module _ (K : ℕ → Bool) (records : List Record) where
   pub start : (n : ℕ) (ranks picks : List ℕ) → AreAfter K records n ranks picks → AreMarks K records n 0 ranks picks
@@ -32,17 +28,17 @@ module _ (K : ℕ → Bool) (records : List Record) where
     same_gift =
         let below : has_rank_below (suc n) ranks ≡ (λ (d : ℕ). is_ranked K records n d) = λ j d. (ap (λ m. nat_lt 0 m && nat_lt m (suc n)) (marks.ranked d) ∙ lower_is_ranked K records n i d) j in
         ap (λ (f : ℕ → Bool). K r.parent && (list_all K (numbers r) && each_same_length r f)) below
-        ∙ sym (ap (λ b. K r.parent && (b && (list_all K (numbers r) && each_same_length r (λ d. is_ranked K records n d)))) (same_number r.parent r.parent refl))
+        ∙ sym (ap (λ b. K r.parent && (b && (list_all K (numbers r) && each_same_length r (λ d. is_ranked K records n d)))) (eq-eqb r.parent r.parent refl))
 
     other_giver : (c : ℕ) → c ≢ r.parent → giver K records n c ≢ i
     other_giver c other e =
         let g = giver_gives K records n i c r at e in
-        let a = and_true (K c) (gives K records (λ d. is_ranked K records n d) c r) g in
-        let b = and_true (r.parent == c) (list_all K (numbers r) && each_same_length r (λ d. is_ranked K records n d)) a.1 in
+        let a = and_parts (K c) (gives K records (λ d. is_ranked K records n d) c r) g in
+        let b = and_parts (r.parent == c) (list_all K (numbers r) && each_same_length r (λ d. is_ranked K records n d)) a.1 in
         other (sym (eqb-true r.parent c b.0))
 
     has_none : (c : ℕ) → slice_index ranks c ≡ 0 → (is_ranked K records n c ≡ false) × (i ≤ giver K records n c)
-    has_none c e = go (is_ranked K records n c) refl (there_or_past (giver K records n c) i)
+    has_none c e = go (is_ranked K records n c) refl (cases_lt (giver K records n c) i)
       where
         go : (b : Bool) → is_ranked K records n c ≡ b → (giver K records n c < i) ⊎ (i ≤ giver K records n c) → (is_ranked K records n c ≡ false) × (i ≤ giver K records n c)
         go true f s = absurd (let o = old_mark K records n i c (rank_after K records n c) (suc n) f in let k = rank_some K records n c f in omega (arith, o, k, e, marks.ranked c))
@@ -50,7 +46,7 @@ module _ (K : ℕ → Bool) (records : List Record) where
         go false f (inr past) = (f, past)
 
     has_some : (c : ℕ) → slice_index ranks c ≢ 0 → (is_ranked K records n c ≡ true) ⊎ (giver K records n c ≢ i)
-    has_some c e = go (is_ranked K records n c) refl (there_or_past (giver K records n c) i)
+    has_some c e = go (is_ranked K records n c) refl (cases_lt (giver K records n c) i)
       where
         go : (b : Bool) → is_ranked K records n c ≡ b → (giver K records n c < i) ⊎ (i ≤ giver K records n c) → (is_ranked K records n c ≡ true) ⊎ (giver K records n c ≢ i)
         go true f s = inl f
@@ -110,11 +106,3 @@ module _ (K : ℕ → Bool) (records : List Record) where
 
   pub whole_end : (ranks picks : List ℕ) → AreAfter K records (length records) ranks picks → AreRanks K records ranks picks
   whole_end ranks picks a = record { ranked = λ c. a.ranked c ∙ ends_rank K records c; picked = λ c. a.picked c ∙ ends_pick K records c }
-
-pub some_at : {X : Type 0} (xs : List X) (i : ℕ) (x : X) → i < length xs → x ≡ get_or xs i x → slice_get xs i ≡ Some x
-some_at [] i x h e = absurd (omega (arith, h))
-some_at (y ∷ xs) zero x h e = ap Some (sym e)
-some_at (y ∷ xs) (suc i) x h e = some_at xs i x (omega (arith, h)) e
-
-pub written_back : {X : Type 0} (len : ℕ) (new old : List X) → len ≡ length old → length new ≡ length old → take len (new ++ drop (length new) old) ≡ new
-written_back len new old e f = let g : len ≡ length new = omega (arith, e, f) in rw g (take-append_seam new (drop (length new) old))

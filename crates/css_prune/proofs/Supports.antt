@@ -2,21 +2,20 @@
 use Rattle.std.proofs.Common.{◌≡◌, ℕ, zero, suc, ◌-◌, ◌<◌, Bool, true, false, cond, List, [], ◌∷◌, length, refl, sym, ap, subst, ◌∙◌, arith}
 use Rattle.std.specs.Prelude.{◌&&◌, ◌||◌, ◌==◌, not, map, filter, slice_index, Some, unwrap_or, find}
 use Rattle.std.specs.List.{list_any, list_all, range_with_len}
-use Rattle.std.proofs.lemmas.Bool.{eqb-true}
-use Rattle.std.proofs.lemmas.Bool.Decides.{nat_tests}
+use Rattle.std.proofs.lemmas.Bool.{eqb-true, eq-eqb, and_parts, and_from}
 use Rattle.std.proofs.lemmas.List.{length-map}
-use Rattle.patterns.specs.Parts.{IsIn}
 use Rattle.lists.specs.Members.IsIn.{here, later}
-use Rattle.patterns.proofs.Booleans.{and_true, both_true}
-use Rattle.patterns.proofs.Lists.{IsIn-map, from_IsIn-map, IsIn-filter, from_IsIn-filter, NoRepeats-filter}
-use Rattle.patterns.proofs.NoRepeat.{IsIn-range_with_len, in_range_with_len, NoRepeats-range_with_len}
+use Rattle.lists.proofs.Tests.{some_passes, all_pass, each_passes}
+use Rattle.lists.specs.Members.{IsIn}
+use Rattle.lists.proofs.Members.{IsIn-map, from_IsIn-map, IsIn-filter, from_IsIn-filter}
+use Rattle.lists.proofs.Repeats.{NoRepeats-filter}
+use Rattle.lists.proofs.Ranges.{IsIn-range_with_len, in_range_with_len, NoRepeats-range_with_len}
 use Rattle.css_domain.specs.declared.shape.Shape.TheVariants.{Nothing}
 use Rattle.css_domain.specs.declared.record.Record.{Record}
 use Rattle.css_domain.specs.Records.{numbers, has_same_length}
 use Rattle.css_domain.specs.Standing.{Ranked, RestsOn, IsSupport, Stands, gives, is_ranked, each_same_length}
 use Rattle.css_domain.specs.Records.{AreWithin}
 use Rattle.css_prune.specs.Marks.{gives_next, rank_after}
-use Rattle.css_prune.proofs.Passing.{any_by, all_by, each_passes}
 use Rattle.css_prune.proofs.Rounds.{ranked_by_end}
 use Rattle.css_prune.proofs.Marks.{rank_some}
 use Rattle.css_prune.proofs.Ends.{rank_stays, ranked_at_rank}
@@ -30,9 +29,6 @@ pub in_at_slot : (xs : List ℕ) (slot : ℕ) → slot < length xs → IsIn (sli
 in_at_slot [] slot h = absurd (omega (arith, h))
 in_at_slot (x ∷ xs) zero h = here
 in_at_slot (x ∷ xs) (suc slot) h = later x (in_at_slot xs slot (omega (arith, h)))
-
-pub same_number : (a b : ℕ) → a ≡ b → (a == b) ≡ true
-same_number a b e = grind (arith, nat_tests)
 
 unless : (b t : Bool) → (b ≡ true → t ≡ true) → (not b || t) ≡ true
 unless true t f = f refl
@@ -61,12 +57,12 @@ module _ (K : ℕ → Bool) (records : List Record) where
         let r = t.by_record in
         let rests = support.rests t i in
         let many : length (numbers r) ≡ length r.children = length-map r.children (λ (c : ℕ × Bool). c.0) in
-        both_true (K t.class) (list_any (λ r. gives K records (λ d. is_ranked K records m d) t.class r) records) (all t i)
-        (any_by (λ r. gives K records (λ d. is_ranked K records m d) t.class r) (support.recorded t i)
-        (both_true (r.parent == t.class) (list_all K (numbers r) && each_same_length r (λ d. is_ranked K records m d)) (same_number r.parent t.class rests.own)
-        (both_true (list_all K (numbers r)) (each_same_length r (λ d. is_ranked K records m d))
-        (all_by K (numbers r) (λ d j. let s = slot_of (numbers r) d j in let u = rests.child s.0 s.1 in subst (λ n. K n ≡ true) (u.2 ∙ s.2) (all u.0 u.1)))
-        (all_by (λ slot. not (has_same_length r slot) || is_ranked K records m (slice_index (numbers r) slot)) (range_with_len 0 (length r.children))
+        and_from (K t.class) (list_any (λ r. gives K records (λ d. is_ranked K records m d) t.class r) records) (all t i)
+        (some_passes (λ r. gives K records (λ d. is_ranked K records m d) t.class r) (support.recorded t i)
+        (and_from (r.parent == t.class) (list_all K (numbers r) && each_same_length r (λ d. is_ranked K records m d)) (eq-eqb r.parent t.class rests.own)
+        (and_from (list_all K (numbers r)) (each_same_length r (λ d. is_ranked K records m d))
+        (all_pass K (numbers r) (λ d j. let s = slot_of (numbers r) d j in let u = rests.child s.0 s.1 in subst (λ n. K n ≡ true) (u.2 ∙ s.2) (all u.0 u.1)))
+        (all_pass (λ slot. not (has_same_length r slot) || is_ranked K records m (slice_index (numbers r) slot)) (range_with_len 0 (length r.children))
         (λ slot j.
         let within = IsIn-range_with_len 0 (length r.children) slot j in
         let u = rests.child slot (omega (arith, within, many)) in
@@ -97,7 +93,7 @@ module _ (K : ℕ → Bool) (records : List Record) where
   unfolding giving
   giving_gives c h =
       let at = ranked_at_rank K records (length records) c h in
-      let a = and_true (K c) (list_any (λ r. gives K records (λ d. is_ranked K records (last_rank c - 1) d) c r) records) at in
+      let a = and_parts (K c) (list_any (λ r. gives K records (λ d. is_ranked K records (last_rank c - 1) d) c r) records) at in
       found_one (gives_next K records (last_rank c - 1) c) blank records (any_beside (K c) (λ r. gives K records (λ d. is_ranked K records (last_rank c - 1) d) c r) records a.0 a.1)
 
   module _ (classes : ℕ) (within : AreWithin classes records) (small : (c : ℕ) → K c ≡ true → c < classes) (ranked : (c : ℕ) → K c ≡ true → is_ranked K records (length records) c ≡ true) where
@@ -119,21 +115,21 @@ module _ (K : ℕ → Bool) (records : List Record) where
         let g = giving_gives c (ranked c h) in
         let r = giving c in
         let n = last_rank c - 1 in
-        let a = and_true (K c) (gives K records (λ d. is_ranked K records n d) c r) g.1 in
-        let b = and_true (r.parent == c) (list_all K (numbers r) && each_same_length r (λ d. is_ranked K records n d)) a.1 in
-        let e = and_true (list_all K (numbers r)) (each_same_length r (λ d. is_ranked K records n d)) b.1 in
+        let a = and_parts (K c) (gives K records (λ d. is_ranked K records n d) c r) g.1 in
+        let b = and_parts (r.parent == c) (list_all K (numbers r) && each_same_length r (λ d. is_ranked K records n d)) a.1 in
+        let e = and_parts (list_all K (numbers r)) (each_same_length r (λ d. is_ranked K records n d)) b.1 in
         let many : length (numbers r) ≡ length r.children = length-map r.children (λ (d : ℕ × Bool). d.0) in
         let some = rank_some K records (length records) c (ranked c h) in
         record {
           own = eqb-true r.parent c b.0;
           child = λ slot l.
               let d = slice_index (numbers r) slot in
-              let kd : K d ≡ true = each_passes K (in_at_slot (numbers r) slot l) e.0 in (
+              let kd : K d ≡ true = each_passes K e.0 (in_at_slot (numbers r) slot l) in (
                 triple d,
                 IsIn-map triple (is_kept d kd),
                 refl,
                 λ t.
-                    let here : is_ranked K records n d ≡ true = from_unless (has_same_length r slot) (is_ranked K records n d) (each_passes (λ s. not (has_same_length r s) || is_ranked K records n (slice_index (numbers r) s)) (in_range_with_len 0 (length r.children) slot (omega arith) (omega (arith, l, many))) e.1) t in
+                    let here : is_ranked K records n d ≡ true = from_unless (has_same_length r slot) (is_ranked K records n d) (each_passes (λ s. not (has_same_length r s) || is_ranked K records n (slice_index (numbers r) s)) e.1 (in_range_with_len 0 (length r.children) slot (omega arith) (omega (arith, l, many)))) t in
                     let lower = rank_some K records n d here in
                     let same = rank_stays K records n (length records) d (omega (arith, some)) here in
                     omega (arith, lower, same.1, some),

@@ -1,12 +1,12 @@
 -- What an entry is made of.
 use Rattle.std.specs.Prelude.{◌≡◌, ◌<◌, ℕ, suc, Bool, nat_eq, List, length, slice_index}
 use Rattle.std.specs.List.{position_or_len}
-use Rattle.patterns.specs.Parts.{IsIn}
 use Rattle.css_domain.specs.Meanings.{Meaning}
 use Rattle.css_domain.specs.Ledgers.{Books, classes, records}
 use Rattle.css_domain.specs.Entries.{picked_children}
 use Rattle.css_domain.specs.Standing.{rank_of, pick_of}
 use Rattle.css_prune.specs.declared.pruned.Pruned.{Pruned}
+use Rattle.lists.specs.Members.{IsIn}
 
 module _ {C R : Type 0} (D : Meaning C R) where
   -- the class has rank and pick, and its pick's children have places in the order

@@ -1,11 +1,11 @@
 -- Ranks as marks that grow record by record.
 use Rattle.std.specs.Prelude.{◌≡◌, ◌≢◌, ◌⊎◌, ◌<◌, ◌^◌, ℕ, zero, suc, Bool, true, ◌&&◌, cond, nat_lt, List, length, map, slice_index, slice_set, count_by, false}
 use Rattle.std.specs.List.{position_or_len, list_all}
-use Rattle.patterns.specs.Parts.{IsIn}
 use Rattle.css_domain.specs.declared.record.Record.{Record}
 use Rattle.css_domain.specs.Records.{numbers}
 use Rattle.css_prune.specs.Pruning.{kept}
 use Rattle.css_domain.specs.Standing.{gives, is_ranked, rank_of, pick_of, each_same_length}
+use Rattle.lists.specs.Members.{IsIn}
 
 -- the records can be numbered, and so can the children of each
 pub record AreShort (records : List Record) : Type 0 where

@@ -1,8 +1,9 @@
 ghost use Rattle.std.specs.Prelude.{◌≡◌, ◌<◌, ◌^◌, ℕ, Bool, true, nat_eq, length, map, IfOk, OnOk};
-ghost use Rattle.css_domain.specs.Added.{with_new, with_all_new, order_from};
+ghost use Rattle.css_domain.specs.Added.{order_from};
 ghost use Rattle.css_prune.specs.Pruning.{kept};
 ghost use Rattle.css_prune.specs.Marks.{AreBelow};
 ghost use Rattle.css_prune.specs.Places.{ArePlaces, IsGuide, calls};
+ghost use Rattle.lists.specs.Added.{with_new, with_all_new};
 
 use css_domain::Record;
 use std::alloc::{AllocError, Global};

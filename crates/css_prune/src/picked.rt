@@ -1,10 +1,10 @@
 ghost use Rattle.std.specs.Prelude.{◌≡◌, ◌<◌, ◌-◌, ℕ, IsTrue, IfOk, length, map, slice_index};
 ghost use Rattle.std.specs.List.{AllZip};
-ghost use Rattle.patterns.specs.Parts.{IsIn};
 ghost use Rattle.css_domain.specs.Ledgers.{classes, records};
 ghost use Rattle.css_domain.specs.Entries.{IsPickOf, Picked};
 ghost use Rattle.css_prune.specs.Pruning.{kept, HasLength, IsPruned};
 ghost use Rattle.css_prune.specs.Extracting.{IsReady};
+ghost use Rattle.lists.specs.Members.{IsIn};
 
 use crate::entry::Entry;
 use crate::order::{Order, order_of};

@@ -1,12 +1,12 @@
 -- Where the terms end.
 use Rattle.std.proofs.Common.{◌≡◌, ℕ, zero, suc, ◌+◌, ◌<◌, ◌≤◌, true, false, List, [], ◌∷◌, length, refl, sym, ap, ◌∙◌, subst, arith, get_or, ⊎_elim}
-use Rattle.css_domain.proofs.Ways.{less_or_whole}
 use Rattle.std.specs.Prelude.{map}
 use Rattle.std.specs.List.{range_with_len}
 use Rattle.css_terms.specs.Terms.{capped, cut, terms_to}
 use Rattle.css_terms.specs.Series.{Shows, is_big}
 use Rattle.css_terms.specs.declared.term.Term.{Term}
 use Rattle.css_terms.specs.declared.term.Term.TheVariants.{Exact, Big}
+use Rattle.lists.proofs.Numbers.{less_or_whole}
 
 -- no term below n is big
 abbrev pub NoneBig : (ℕ → ℕ) → ℕ → Type 0

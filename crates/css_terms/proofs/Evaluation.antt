@@ -8,8 +8,8 @@ use Rattle.std.proofs.lemmas.Bool.Decides.{nat_tests}
 use Rattle.std.proofs.Math.ListN.{get_or-eq_default}
 use Rattle.css_domain.specs.Shapes.{combine}
 use Rattle.css_domain.specs.declared.shape.Shape.TheVariants.{Product}
-use Rattle.css_domain.proofs.Ways.{SlotsAgree, combine_agrees, less_or_whole}
-use Rattle.css_domain.proofs.Determined.{at_place}
+use Rattle.css_domain.proofs.Ways.{SlotsAgree, combine_agrees}
+use Rattle.lists.proofs.Numbers.{less_or_whole}
 use Rattle.css_terms.specs.Terms.{capped}
 use Rattle.css_terms.specs.Series.{Shows, Knows, ShowsTails, places}
 use Rattle.css_terms.proofs.Tails.{AgreeOn, tails_agree}
@@ -17,6 +17,7 @@ use Rattle.css_terms.specs.Rows.{IsGoodRow, AreRowCounts, AllShow, AreTailsOf, A
 use Rattle.css_terms.specs.declared.rows.Row.{Row}
 use Rattle.css_terms.specs.declared.term.Term.{Term}
 use Rattle.css_terms.specs.declared.term.Term.TheVariants.{Exact}
+use Rattle.lists.proofs.Places.{at_place}
 
 -- the counts as far as the series go
 abbrev pub seen : List (List Term) → (ℕ → ℕ → ℕ) → ℕ → ℕ → ℕ

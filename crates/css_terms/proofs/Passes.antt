@@ -1,23 +1,17 @@
 -- One pass over the rows, in order of rank.
-use Rattle.std.proofs.Common.{◌≡◌, ℕ, zero, suc, ◌+◌, ◌-◌, ◌<◌, ◌≤◌, List, [], length, refl, sym, ap, ◌∙◌, subst, arith, get_or, inl, inr, ⊎_elim}
+use Rattle.std.proofs.Common.{◌≡◌, ℕ, ◌+◌, ◌<◌, List, [], length, sym, ap, ◌∙◌, subst, arith, get_or, ⊎_elim}
 use Rattle.std.specs.Prelude.{◌⊎◌, slice_get, Some, Contains}
 use Rattle.std.proofs.lemmas.List.{get_or_default}
-use Rattle.css_domain.proofs.Ways.{less_or_whole}
-use Rattle.css_domain.proofs.Determined.{at_place}
+use Rattle.std.proofs.lemmas.Bool.{cases_lt}
 use Rattle.css_terms.specs.Rows.{AreAt, AreNear, AreLowerDone, IsExtended, IsInOrderOfRank}
 use Rattle.css_terms.specs.declared.rows.Row.{Row}
 use Rattle.css_terms.specs.declared.term.Term.{Term}
+use Rattle.lists.proofs.Numbers.{less_or_whole}
+use Rattle.lists.proofs.Places.{at_place}
 
 -- the rows at the first places of the order have their terms at n
 abbrev pub AreDone : List (List Term) → List (ℕ × ℕ) → ℕ → ℕ → Type 0
 AreDone lists order index n = (q : ℕ) → q < index → n < length (get_or lists (get_or order q (0, 0)).1 [])
-
-pub there_or_past : (q index : ℕ) → (q < index) ⊎ (index ≤ q)
-there_or_past q index = go (index - q) refl
-  where
-    go : (d : ℕ) → index - q ≡ d → (q < index) ⊎ (index ≤ q)
-    go zero e = inr (omega arith)
-    go (suc d) e = inl (omega arith)
 
 pub near_from : (lists : List (List Term)) (k n : ℕ) → AreAt lists k n → AreNear lists n
 near_from lists k n at c small = let l = at.long c (omega (arith, small, at.as_many)) in (omega (arith, l), omega (arith, l))
@@ -42,7 +36,7 @@ module _ (rows : List Row) (order : List (ℕ × ℕ)) (is : IsInOrderOfRank row
       ⊎_elim {C = n < length (get_or lists c [])}
       (λ before. subst (λ x. n < length (get_or lists x [])) (ap (λ (p : ℕ × ℕ). p.1) q.2) (done q.0 before))
       (λ past. let up = is.ascends index q.0 (0, 0) past q.1 in let theirs : (get_or order q.0 (0, 0)).0 ≡ child.rank = ap (λ (p : ℕ × ℕ). p.0) q.2 in absurd (omega (arith, up, own, theirs, less)))
-      (there_or_past q.0 index)
+      (cases_lt q.0 index)
 
   pub all_done : (lists : List (List Term)) (n : ℕ) → length lists ≡ length rows → AreNear lists n → AreDone lists order (length order) n → AreAt lists (length rows) (n + 1)
   all_done lists n many near done =

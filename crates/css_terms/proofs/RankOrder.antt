@@ -11,12 +11,6 @@ use Rattle.std.proofs.lemmas.Option.{slice_get_within, get_or_from_slice_get}
 use Rattle.css_terms.specs.declared.rows.Row.{Row}
 use Rattle.css_terms.specs.Rows.{IsInOrderOfRank, ranked_from, ranked_places}
 
--- what was read at a place
-pub some_at : {X : Type 0} (xs : List X) (i : ℕ) (x : X) → i < length xs → x ≡ get_or xs i x → slice_get xs i ≡ Some x
-some_at [] i x h e = absurd (omega (arith, h))
-some_at (y ∷ xs) zero x h e = ap Some (sym e)
-some_at (y ∷ xs) (suc i) x h e = some_at xs i x (omega (arith, h)) e
-
 pub ranked_more : (j i : ℕ) (rows : List Row) (row : Row) → slice_get rows i ≡ Some row → ranked_from j (take (i + 1) rows) ≡ ranked_from j (take i rows) ++ (row.rank, j + i) ∷ []
 ranked_more j i [] row h = absurd cc
 ranked_more j zero (x ∷ rows) row h = let e : x ≡ row = cc in let d : j + 0 ≡ j = omega arith in ap (λ (p : ℕ × ℕ). p ∷ []) (rw (e, d) refl)

@@ -4,7 +4,7 @@ use Rattle.std.specs.Prelude.{map, sum_by}
 use Rattle.std.proofs.lemmas.List.{get_or-map, get_or_append_left, length-map}
 use Rattle.std.proofs.lemmas.List.Sums.{sum_by-cons}
 use Rattle.std.proofs.Math.Seq.{get_or-append_seam}
-use Rattle.css_domain.proofs.Ways.{less_or_whole}
+use Rattle.lists.proofs.Numbers.{less_or_whole}
 use Rattle.css_terms.specs.Terms.{capped}
 use Rattle.css_terms.specs.Series.{Shows, AreBelow, places}
 use Rattle.css_terms.specs.declared.term.Term.{Term}

@@ -1,17 +1,18 @@
 -- The rows of a specification.
 use Rattle.std.proofs.Common.{◌≡◌, ℕ, zero, suc, ◌<◌, Bool, true, List, [], ◌∷◌, length, refl, sym, ap, ◌∙◌, subst}
-use Rattle.std.specs.Prelude.{IsTrue, map, slice_get, slice_index, Some}
+use Rattle.std.specs.Prelude.{IsTrue, map, zip, slice_get, slice_index, Some}
 use Rattle.std.proofs.lemmas.List.{length-map}
 use Rattle.std.proofs.lemmas.Option.{slice_get-map, slice_get_within}
 use Rattle.std.proofs.lemmas.Slice.Zip.{firsts-zip, seconds-zip}
 use Rattle.css_domain.specs.Shapes.{combine, is_same_length}
 use Rattle.css_domain.specs.Meanings.{Meaning}
 use Rattle.css_domain.specs.Entries.{Entry, IsSpec, AllHold, IsLinked, class_counts, ClassCountsCombine}
-use Rattle.css_domain.proofs.Determined.{IsIn-slice_get, get_index, flag_of}
+use Rattle.css_domain.proofs.Determined.{flag_of}
 use Rattle.css_terms.specs.declared.rows.Row.{Row}
 use Rattle.css_terms.specs.Rows.{IsGoodRow, AreRowCounts, flags}
 use Rattle.css_terms.specs.Series.{places}
 use Rattle.css_terms.specs.SpecRows.{row_of, rows_of, AreSpecRows, SpecsHaveRows}
+use Rattle.lists.proofs.Places.{IsIn-slice_get, get_index}
 
 same_item : {X : Type 0} (x y : X) → Some x ≡ Some y → x ≡ y
 same_item x y h = cc

@@ -7,7 +7,7 @@ use Rattle.std.proofs.Math.Seq.{get_or-append_seam, drop-cons}
 use Rattle.lists.specs.Products.{product_count}
 use Rattle.lists.proofs.Counts.{sum_by_agrees}
 use Rattle.lists.proofs.Ranges.{IsIn-range_with_len}
-use Rattle.css_domain.proofs.Ways.{less_or_whole}
+use Rattle.lists.proofs.Numbers.{less_or_whole}
 use Rattle.css_terms.specs.Terms.{capped}
 use Rattle.css_terms.specs.Series.{ShowsTails, AreTailsAt, tail_count, convolution, places}
 use Rattle.css_terms.specs.declared.term.Term.{Term}

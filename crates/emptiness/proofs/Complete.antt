@@ -4,16 +4,14 @@ use Rattle.std.specs.Prelude.{◌&&◌, ◌||◌, not, map, nat_lt, ◌==◌}
 use Rattle.std.specs.List.{list_all, list_any, AllZip}
 use Rattle.std.proofs.lemmas.List.{length-map}
 use Rattle.std.proofs.lemmas.Bool.Decides.{Decides-eqb}
-use Rattle.patterns.specs.Parts.{IsPart, IsIn, NoRepeats}
+use Rattle.std.proofs.lemmas.Bool.{false_from_ne_true as false_from, and_parts as and_true, and_from as both_true, not_from_false as not_false}
+use Rattle.std.proofs.Math.Bool.{or-true as or_all}
 use Rattle.lists.specs.Members.IsIn.{here, later}
 use Rattle.lists.specs.Parts.IsPart.{none, kept, left_out}
 use Rattle.lists.specs.Members.NoRepeats.{no_element, one_more}
 use Rattle.patterns.specs.Words.{has_no_repeats}
 use Rattle.patterns.specs.Ranks.{rank}
 use Rattle.patterns.specs.Occurs.{is_match}
-use Rattle.patterns.proofs.Booleans.{and_true, both_true, or_all, not_false}
-use Rattle.patterns.proofs.Lists.{IsIn-append_right}
-use Rattle.patterns.proofs.PartLaws.{IsPart-itself, IsPart-trans, IsPart-map}
 use Rattle.patterns.proofs.Occurrences.{occurs_decides, match_tells, match_from}
 use Rattle.gridded.specs.declared.cell.Cell.{Cell}
 use Rattle.gridded.specs.Grids.{Point, letter_of, cell_of, same_cell, is_consistent, is_gridded, holds, Holds}
@@ -25,10 +23,12 @@ use Rattle.emptiness.specs.Glueing.{stands_in, joins, joins_at, falls_on, glues_
 use Rattle.emptiness.proofs.Inserted.{consistent-inserted}
 use Rattle.gridded.specs.Parts.{ranked, closed_up}
 use Rattle.emptiness.proofs.Standard.{closed_up-more, member-closed_up, any-agree}
-use Rattle.patterns.proofs.PartLaws.{list_all-IsPart, IsPart-nothing, IsIn-IsPart}
-use Rattle.lists.proofs.Parts.{IsPart-append}
+use Rattle.lists.proofs.Parts.{IsPart-append, IsPart-itself, IsPart-trans, IsPart-map, list_all-IsPart, IsPart-nothing, IsIn-IsPart}
 use Rattle.lists.proofs.Tests.{which_passes, some_passes, each_passes, all_pass}
-use Rattle.tiling_core.proofs.Deciding.{not_held as not_both, false_from}
+use Rattle.lists.specs.Parts.{IsPart}
+use Rattle.lists.specs.Members.{IsIn, NoRepeats}
+use Rattle.lists.proofs.Members.{IsIn-append_right}
+use Rattle.tiling_core.proofs.Deciding.{not_held as not_both}
 use Rattle.gridded.specs.OrderLaws.{cell_eq_decides}
 use Rattle.gridded.proofs.ClosedUp.{rank-small, holds-closed_up, consistent-closed_up}
 use Rattle.gridded.proofs.Consistent.{consistent_part}

@@ -3,12 +3,9 @@ use Rattle.std.proofs.Common.{◌≡◌, ℕ, zero, suc, ◌+◌, ◌<◌, Bool,
 use Rattle.std.specs.Prelude.{◌&&◌, ◌↔◌, not, map, nat_lt, Decides, IsTrue}
 use Rattle.std.specs.List.{filter, list_all, list_any, AllByRecursion, range_with_len}
 use Rattle.std.proofs.lemmas.Bool.Decides.{nat_tests}
-use Rattle.patterns.specs.Parts.{IsIn}
+use Rattle.std.proofs.lemmas.Bool.{false_from_ne_true as false_from, and_parts as and_true, and_from as both_true}
 use Rattle.lists.specs.Members.IsIn.{here}
-use Rattle.patterns.specs.Words.{words, has_no_repeats}
-use Rattle.patterns.proofs.Booleans.{and_true, both_true}
-use Rattle.patterns.proofs.Lists.{IsIn-map, IsIn-filter, from_IsIn-filter}
-use Rattle.patterns.proofs.NoRepeat.{IsIn-flat_map, IsIn-words, in_range_with_len}
+use Rattle.patterns.specs.Words.{has_no_repeats}
 use Rattle.gridded.specs.declared.cell.Cell.{Cell}
 use Rattle.gridded.specs.Grids.{Point, letter_of, cells_in, points_in, gridded_of, is_gridded, is_consistent, IsGridded, holds, same_cell}
 use Rattle.gridded.specs.Orders.{cells_of}
@@ -20,7 +17,12 @@ use Rattle.emptiness.specs.Glueing.{reaches}
 use Rattle.emptiness.proofs.Inserted.{IsPlaced, placed}
 use Rattle.emptiness.proofs.Complete.{reached-from_member}
 use Rattle.lists.proofs.Tests.{which_passes, some_passes, each_passes, all_pass}
-use Rattle.tiling_core.proofs.Deciding.{not_held as not_both, false_from}
+use Rattle.lists.specs.Members.{IsIn}
+use Rattle.lists.specs.Words.{words}
+use Rattle.lists.proofs.Members.{IsIn-map, IsIn-filter, from_IsIn-filter, IsIn-flat_map}
+use Rattle.lists.proofs.Words.{IsIn-words}
+use Rattle.lists.proofs.Ranges.{in_range_with_len}
+use Rattle.tiling_core.proofs.Deciding.{not_held as not_both}
 use Rattle.emptiness.proofs.Sound.{reaches-sound, Found}
 use Rattle.gridded.proofs.Holding.{Holds-trans}
 use Rattle.emptiness.proofs.Held.{reached-from_held}

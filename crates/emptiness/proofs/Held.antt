@@ -4,12 +4,13 @@ use Rattle.std.specs.Prelude.{◌&&◌, map}
 use Rattle.std.specs.List.{AllByRecursion}
 use Rattle.std.proofs.lemmas.List.{length-map}
 use Rattle.std.proofs.lemmas.List.Elements.{All-from_recursion}
-use Rattle.patterns.specs.Parts.{IsPart, IsIn}
+use Rattle.std.proofs.lemmas.Bool.{and_parts as and_true}
 use Rattle.lists.specs.Members.IsIn.{here, later}
+use Rattle.lists.specs.Parts.{IsPart}
+use Rattle.lists.specs.Members.{IsIn}
+use Rattle.lists.proofs.Members.{IsIn-map}
+use Rattle.lists.proofs.Parts.{IsPart-itself, IsPart-map}
 use Rattle.patterns.specs.Words.{has_no_repeats}
-use Rattle.patterns.proofs.Booleans.{and_true}
-use Rattle.patterns.proofs.Lists.{IsIn-map}
-use Rattle.patterns.proofs.PartLaws.{IsPart-itself, IsPart-map}
 use Rattle.patterns.proofs.Occurrences.{match_from}
 use Rattle.patterns.proofs.Standard.{rank-lt-length}
 use Rattle.gridded.specs.Grids.{Point, letter_of, same_cell, is_consistent, is_gridded, Holds, IsGridded}

@@ -3,11 +3,11 @@ use Rattle.std.proofs.Common.{◌≡◌, ℕ, ◌≤◌, zero, suc, Bool, true, 
 use Rattle.std.specs.Prelude.{◌&&◌, ◌↔◌, ◌⊎◌, IsTrue, Decides, ◌++◌, not, nat_le, filter, Contains}
 use Rattle.std.specs.List.{list_all, list_any, AllByRecursion}
 use Rattle.std.proofs.lemmas.Bool.Decides.{nat_tests}
-use Rattle.patterns.specs.Parts.{IsIn}
-use Rattle.lists.proofs.Members.{is_in, contained, of_each}
+use Rattle.std.proofs.lemmas.Bool.{false_from_ne_true as false_from, and_parts as and_true, and_from as both_true, not_from_false as not_false}
+use Rattle.lists.proofs.Members.{is_in, contained, of_each, IsIn-map, IsIn-filter, from_IsIn-filter, IsIn-append_left, IsIn-append_right, IsIn-append_cases}
 use Rattle.lists.specs.Members.IsIn.{here, later}
-use Rattle.patterns.proofs.Booleans.{and_true, both_true, not_false, same_test}
-use Rattle.patterns.proofs.Lists.{IsIn-map, IsIn-filter, from_IsIn-filter, IsIn-append_left, IsIn-append_right, IsIn-append_cases}
+use Rattle.lists.proofs.Tests.{each_passes, all_pass, which_passes as one_passes, some_passes, same_test}
+use Rattle.lists.specs.Members.{IsIn}
 use Rattle.gridded.specs.declared.cell.Cell.{Cell}
 use Rattle.gridded.specs.Grids.{IsGridded, Point, cell_of, holds, Holds, gridded_of, cells_in}
 use Rattle.gridded.specs.Laws.{IsCellOf}
@@ -18,7 +18,7 @@ use Rattle.sequences.proofs.InOrder.{in_order-is}
 use Rattle.tiling_core.specs.Tiles.{Tiles}
 use Rattle.tiling_core.specs.Carried.{MemberOf}
 use Rattle.tiling_core.specs.Patterns.{also, forbids}
-use Rattle.tiling_core.proofs.Deciding.{is_member_decides, fits_grid_decides, each_passes, all_pass, one_passes, some_passes, not_held, false_from}
+use Rattle.tiling_core.proofs.Deciding.{is_member_decides, fits_grid_decides, not_held}
 use Rattle.gridded.specs.Small.{point_at}
 use Rattle.gridded.specs.Places.{fits_grid}
 use Rattle.gridded.proofs.Holding.{holds_decides}
@@ -92,7 +92,7 @@ told t n g s m e =
     record {
       small = subst (λ (l : ℕ). (l ≡ 1) ⊎ (l ≡ 2)) (sym k.as_long) s;
       listed = subst (λ (l : ℕ). IsIn g (gridded_of t.width t.height l)) (sym k.as_long) m;
-      active = λ d i. IsIn-filter (λ z. is_active t z) (IsIn-cells_in t.width t.height d (of_each (λ z. IsCellOf t.width t.height z) k.in_grid i)) (each_passes (is_active t) i c.1);
+      active = λ d i. IsIn-filter (λ z. is_active t z) (IsIn-cells_in t.width t.height d (of_each (λ z. IsCellOf t.width t.height z) k.in_grid i)) (each_passes (is_active t) c.1 i);
       no_obstruction = λ o i h. not_held (list_any (holds g) t.obstructions) b.1 (some_passes (holds g) i ((holds_decides g o).1 h));
       unheld = held_by_no_member t g a.1;
     }

@@ -5,13 +5,13 @@ use Rattle.std.specs.List.{list_all, list_any, AllByRecursion}
 use Rattle.std.proofs.lemmas.List.{length-map}
 use Rattle.std.proofs.lemmas.List.Elements.{All-from_recursion}
 use Rattle.std.proofs.lemmas.Bool.Decides.{nat_tests, Decides-eqb}
-use Rattle.patterns.proofs.Booleans.{and_true, both_true}
 use Rattle.std.specs.Bool.{beq}
+use Rattle.std.proofs.lemmas.Bool.{and_parts as and_true, and_from as both_true}
 use Rattle.patterns.specs.Words.{has_no_repeats}
-use Rattle.patterns.specs.Parts.{IsPart}
 use Rattle.lists.specs.Parts.IsPart.{none, kept, left_out}
+use Rattle.lists.specs.Parts.{IsPart}
+use Rattle.lists.proofs.Parts.{IsPart-itself}
 use Rattle.patterns.specs.Occurs.{stand_alike, stands_as, is_match}
-use Rattle.patterns.proofs.PartLaws.{IsPart-itself}
 use Rattle.patterns.proofs.Occurrences.{match_tells}
 use Rattle.gridded.specs.declared.cell.Cell.{Cell}
 use Rattle.gridded.specs.Grids.{Point, letter_of, cell_of, points, same_cell, may_follow, is_consistent, IsGridded, FitTogether, Holds}

@@ -3,13 +3,13 @@ use Rattle.std.proofs.Common.{◌≡◌, ◌<◌, ◌≤◌, ℕ, zero, suc, Boo
 use Rattle.std.specs.Prelude.{◌&&◌, ◌==◌, ◌↔◌, ◌+◌, IsTrue, nat_le}
 use Rattle.std.specs.List.{list_all, range_with_len}
 use Rattle.std.proofs.lemmas.Bool.Decides.{nat_tests, Decides-eqb}
-use Rattle.patterns.proofs.Booleans.{both_true, same_test}
+use Rattle.std.proofs.lemmas.Bool.{and_from as both_true}
 use Rattle.tiling_core.specs.Tiles.{Tiles, count}
 use Rattle.tiling_core.specs.Measures.{weight}
 use Rattle.emptiness.specs.Emptiness.{IsEmpty, MembersWithinWeight}
 use Rattle.emptiness.specs.Inferable.{has_no_member}
-use Rattle.patterns.proofs.NoRepeat.{in_range_with_len}
-use Rattle.tiling_core.proofs.Deciding.{each_passes}
+use Rattle.lists.proofs.Tests.{each_passes, same_test}
+use Rattle.lists.proofs.Ranges.{in_range_with_len}
 
 -- no member of a length up to the weight is none at all
 pub none_of_any_length : MembersWithinWeight → (t : Tiles) → has_no_member t ≡ true → IsEmpty t
@@ -21,7 +21,7 @@ none_of_any_length within t e n = go (count t n) refl
         let some : 0 < count t n = omega arith in
         let w = within t n some in
         let listed = in_range_with_len 0 (weight t + 1) w.size (omega arith) (let s = w.short in omega arith) in
-        let none : count t w.size ≡ 0 = (Decides-eqb (count t w.size) 0).0 (each_passes (λ m. count t m == 0) listed e) in
+        let none : count t w.size ≡ 0 = (Decides-eqb (count t w.size) 0).0 (each_passes (λ m. count t m == 0) e listed) in
         let counted = w.counted in
         absurd (omega arith)
 

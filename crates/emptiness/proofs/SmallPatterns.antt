@@ -6,12 +6,9 @@ use Rattle.std.proofs.lemmas.List.Elements.{All-from_recursion, filter-append}
 use Rattle.std.proofs.lemmas.Bool.Decides.{nat_tests}
 use Rattle.std.proofs.lemmas.List.{map-append, append-nil}
 use Rattle.std.proofs.lemmas.Grind.{flat_map-append}
-use Rattle.patterns.specs.Parts.{IsIn}
+use Rattle.std.proofs.lemmas.Bool.{false_from_ne_true as false_from, and_parts as and_true, and_from as both_true, not_from_false as not_false}
 use Rattle.lists.specs.Members.IsIn.{here, later}
-use Rattle.patterns.specs.Words.{words, has_no_repeats}
-use Rattle.patterns.proofs.Booleans.{and_true, both_true, not_false}
-use Rattle.patterns.proofs.Lists.{from_IsIn-map, IsIn-filter, from_IsIn-filter, IsIn-append_right, IsIn-append_cases}
-use Rattle.patterns.proofs.NoRepeat.{IsIn-flat_map, from_IsIn-flat_map, from_IsIn-words, IsIn-range_with_len}
+use Rattle.patterns.specs.Words.{has_no_repeats}
 use Rattle.patterns.proofs.Occurrences.{occurs_decides}
 use Rattle.gridded.specs.declared.cell.Cell.{Cell}
 use Rattle.gridded.specs.Grids.{Point, letter_of, same_cell, cells_in, points_in, gridded_of, is_gridded, is_consistent, may_follow, holds, Holds, IsGridded, FitTogether}
@@ -28,9 +25,13 @@ use Rattle.emptiness.specs.Glueing.{reaches}
 use Rattle.emptiness.specs.Candidates.{pairs_of, candidates_with, candidates_of, is_unheld}
 use Rattle.emptiness.specs.Emptiness.{IsInferable, IsInferredOf, IsHeldByMember}
 use Rattle.emptiness.proofs.Inserted.{IsPlaced}
-use Rattle.lists.proofs.Members.{of_all, each_in}
+use Rattle.lists.proofs.Members.{of_all, each_in, from_IsIn-map, IsIn-filter, from_IsIn-filter, IsIn-append_right, IsIn-append_cases, IsIn-flat_map, from_IsIn-flat_map}
 use Rattle.lists.proofs.Tests.{which_passes, some_passes, each_passes, all_pass}
-use Rattle.tiling_core.proofs.Deciding.{not_held as not_both, false_from}
+use Rattle.lists.specs.Members.{IsIn}
+use Rattle.lists.specs.Words.{words}
+use Rattle.lists.proofs.Words.{from_IsIn-words}
+use Rattle.lists.proofs.Ranges.{IsIn-range_with_len}
+use Rattle.tiling_core.proofs.Deciding.{not_held as not_both}
 use Rattle.emptiness.proofs.Counted.{placed-listed, held_decides}
 
 -- ---- small gridded permutations

@@ -5,11 +5,8 @@ use Rattle.std.specs.List.{list_any, range_with_len, AllZip}
 use Rattle.std.proofs.lemmas.List.{length-map}
 use Rattle.std.proofs.lemmas.List.Sums.{sum_by-cons}
 use Rattle.std.proofs.lemmas.Bool.Decides.{Decides-eqb}
-use Rattle.patterns.specs.Parts.{IsIn}
+use Rattle.std.proofs.lemmas.Bool.{false_from_ne_true as false_from, and_parts as and_true, and_from as both_true, or_cases as or_true}
 use Rattle.lists.specs.Members.IsIn.{here, later}
-use Rattle.patterns.proofs.Booleans.{and_true, both_true, or_true}
-use Rattle.patterns.proofs.NoRepeat.{IsIn-range_with_len}
-use Rattle.patterns.proofs.PartLaws.{IsPart-itself}
 use Rattle.patterns.proofs.Occurrences.{occurs_decides}
 use Rattle.gridded.specs.declared.cell.Cell.{Cell}
 use Rattle.gridded.specs.Grids.{Point, letter_of, cell_of, same_cell, holds, Holds}
@@ -21,7 +18,10 @@ use Rattle.emptiness.specs.Glueing.{weight_of, stands_in, joins, joins_at, falls
 use Rattle.emptiness.proofs.Inserted.{IsPlaced, IsPlaced-inserted, length-inserted, Holds-inserted}
 use Rattle.gridded.proofs.Holding.{Holds-trans}
 use Rattle.lists.proofs.Tests.{which_passes, some_passes, each_passes, all_pass}
-use Rattle.tiling_core.proofs.Deciding.{not_held as not_both, false_from}
+use Rattle.lists.specs.Members.{IsIn}
+use Rattle.lists.proofs.Ranges.{IsIn-range_with_len}
+use Rattle.lists.proofs.Parts.{IsPart-itself}
+use Rattle.tiling_core.proofs.Deciding.{not_held as not_both}
 
 -- ---- a gridded permutation holds itself
 fit-itself : (g : List Point) → AllZip (λ x a. same_cell x a ≡ true) g g

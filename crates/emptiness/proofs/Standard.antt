@@ -5,14 +5,16 @@ use Rattle.std.specs.List.{list_all, list_any, AllZip}
 use Rattle.std.proofs.lemmas.List.{length-map}
 use Rattle.std.proofs.lemmas.List.Sums.{sum_by-cons, count_by-le-length}
 use Rattle.std.proofs.lemmas.Bool.Decides.{nat_tests, Decides-eqb}
-use Rattle.patterns.specs.Parts.{IsPart, IsIn}
+use Rattle.std.proofs.lemmas.Bool.{and_parts as and_true, and_from as both_true}
 use Rattle.lists.specs.Members.IsIn.{here, later}
 use Rattle.lists.specs.Parts.IsPart.{none, kept, left_out}
+use Rattle.lists.specs.Parts.{IsPart}
+use Rattle.lists.specs.Members.{IsIn}
+use Rattle.lists.proofs.Tests.{same_test}
+use Rattle.lists.proofs.Members.{IsIn-map}
+use Rattle.lists.proofs.Parts.{IsPart-itself}
 use Rattle.patterns.specs.Ranks.{rank}
 use Rattle.patterns.specs.Occurs.{IsSameOrder}
-use Rattle.patterns.proofs.Booleans.{and_true, both_true, same_test}
-use Rattle.patterns.proofs.Lists.{IsIn-map}
-use Rattle.patterns.proofs.PartLaws.{IsPart-itself}
 use Rattle.patterns.proofs.Standard.{one_below, rank-cons, rank_le, rank_lt}
 use Rattle.patterns.proofs.Occurrences.{occurs_decides}
 use Rattle.patterns.proofs.Compose.{Occurs-trans}

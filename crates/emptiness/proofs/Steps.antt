@@ -4,7 +4,7 @@ use Rattle.std.specs.Prelude.{◌&&◌, ◌||◌, cond, max, fold}
 use Rattle.std.specs.List.{list_any, range_with_len}
 use Rattle.std.proofs.lemmas.List.{drop_all}
 use Rattle.std.proofs.lemmas.List.Sums.{sum_by-cons}
-use Rattle.patterns.proofs.Booleans.{or_end}
+use Rattle.std.proofs.Math.Bool.{or-false as or_end}
 use Rattle.gridded.specs.declared.cell.Cell.{Cell}
 use Rattle.gridded.specs.Grids.{Point, holds}
 use Rattle.gridded.specs.Orders.{cells_of, cell_eq}

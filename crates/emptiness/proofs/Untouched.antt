@@ -5,13 +5,11 @@ use Rattle.std.specs.List.{list_all, list_any, AllZip}
 use Rattle.std.proofs.lemmas.Bool.Decides.{nat_tests}
 use Rattle.std.proofs.lemmas.List.{length-map}
 use Rattle.std.proofs.lemmas.List.Elements.{All-get_or}
-use Rattle.patterns.specs.Parts.{IsPart, IsIn}
+use Rattle.std.proofs.lemmas.Bool.{false_from_ne_true as false_from, and_parts as and_true, and_from as both_true, not_from_false as not_false}
+use Rattle.std.proofs.Math.Bool.{or-true as or_all}
 use Rattle.lists.specs.Members.IsIn.{here, later}
 use Rattle.lists.specs.Parts.IsPart.{none, kept, left_out}
 use Rattle.patterns.specs.Occurs.{IsSameOrder}
-use Rattle.patterns.proofs.Booleans.{and_true, both_true, same_test, or_all, not_false}
-use Rattle.patterns.proofs.Lists.{IsIn-filter, from_IsIn-filter}
-use Rattle.patterns.proofs.PartLaws.{IsPart-itself, length-IsPart}
 use Rattle.patterns.proofs.Occurrences.{occurs_decides, match_tells}
 use Rattle.gridded.specs.declared.cell.Cell.{Cell}
 use Rattle.gridded.specs.Grids.{Point, letter_of, same_cell, holds, Holds}
@@ -24,8 +22,12 @@ use Rattle.emptiness.specs.ByCell.{has_point_in}
 use Rattle.emptiness.proofs.Inserted.{match-raised}
 use Rattle.gridded.proofs.Holding.{Holds-trans, holds_decides, holds_shorter}
 use Rattle.gridded.proofs.ClosedUp.{turned}
-use Rattle.lists.proofs.Tests.{which_passes, some_passes, each_passes, all_pass}
-use Rattle.tiling_core.proofs.Deciding.{not_held as not_both, false_from}
+use Rattle.lists.proofs.Tests.{which_passes, some_passes, each_passes, all_pass, same_test}
+use Rattle.lists.specs.Parts.{IsPart}
+use Rattle.lists.specs.Members.{IsIn}
+use Rattle.lists.proofs.Members.{IsIn-filter, from_IsIn-filter}
+use Rattle.lists.proofs.Parts.{IsPart-itself, length-IsPart}
+use Rattle.tiling_core.proofs.Deciding.{not_held as not_both}
 
 -- ---- parts without the new point
 part-put_in : {X : Type 0} (i : ℕ) (x : X) (ys : List X) {os : List X} → IsPart os (put_in i x ys) → (IsIn x os → ⊥) → IsPart os ys

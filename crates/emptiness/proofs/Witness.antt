@@ -2,11 +2,12 @@
 use Rattle.std.proofs.Common.{◌≡◌, Bool, true, false, List, [], ◌∷◌, ◌++◌, refl, sym, ap, ◌∙◌, subst, ⊎_elim}
 use Rattle.std.specs.Prelude.{◌&&◌, not}
 use Rattle.std.specs.List.{list_any}
+use Rattle.std.proofs.lemmas.Bool.{and_from as both_true}
+use Rattle.std.proofs.Math.Bool.{and-false as and_none}
 use Rattle.lists.specs.Members.{IsIn}
 use Rattle.lists.proofs.Members.{IsIn-append_cases, only_in, none_in}
 use Rattle.lists.proofs.Tests.{which_passes}
 use Rattle.patterns.specs.Words.{has_no_repeats}
-use Rattle.patterns.proofs.Booleans.{both_true, and_none}
 use Rattle.gridded.specs.Grids.{Point, holds, IsGridded, is_gridded, is_consistent}
 use Rattle.gridded.specs.Orders.{letters_of}
 use Rattle.gridded.proofs.Holding.{holds_decides}

@@ -1,13 +1,13 @@
 -- Tilings without members, and patterns that no member holds.
 use Rattle.std.specs.Prelude.{◌≡◌, ◌<◌, ◌≤◌, ◌↔◌, ◌⊎◌, ℕ, true, List, length}
 use Rattle.std.specs.List.Sorted.{IsStrictlySortedBy}
-use Rattle.patterns.specs.Parts.{IsIn}
 use Rattle.gridded.specs.Grids.{Point, Holds, gridded_of}
 use Rattle.gridded.specs.declared.cell.Cell.{Cell}
 use Rattle.gridded.specs.Orders.{cells_of, gridded_cmp}
 use Rattle.tiling_core.specs.Patterns.{active_cells}
 use Rattle.tiling_core.specs.Tiles.{Tiles, count, is_member}
 use Rattle.tiling_core.specs.Measures.{weight}
+use Rattle.lists.specs.Members.{IsIn}
 
 -- no gridded permutation of any length is a member
 abbrev pub IsEmpty : Tiles → Type 0

@@ -7,10 +7,11 @@ use Rattle.std.specs.List.{range_with_len}
 use Rattle.std.proofs.lemmas.Nat.{pow_pos, or_lt, ones_cat}
 use Rattle.std.proofs.lemmas.Nat.Bits.{shr_and_one, bit_at-trailing_zeros, bit_at_set_same, bit_at_set_other}
 use Rattle.std.proofs.lemmas.Bool.Decides.{Decides-eqb}
-use Rattle.patterns.specs.Parts.{IsIn}
+use Rattle.std.proofs.lemmas.Bool.{or_cases}
 use Rattle.lists.specs.Members.IsIn.{here, later}
-use Rattle.patterns.proofs.Booleans.{or_true, same_test}
-use Rattle.patterns.proofs.Lists.{IsIn-filter, from_IsIn-filter}
+use Rattle.lists.specs.Members.{IsIn}
+use Rattle.lists.proofs.Tests.{same_test}
+use Rattle.lists.proofs.Members.{IsIn-filter, from_IsIn-filter}
 use Rattle.gridded.specs.declared.cell.Cell.{Cell}
 use Rattle.gridded.specs.Grids.{cells_in}
 use Rattle.gridded.specs.Laws.{IsCellOf}
@@ -28,7 +29,7 @@ is_among_decides set c = ((λ e. tells set e), (λ h. from set h))
     tells : (cells : List Cell) → is_among cells c ≡ true → IsIn c cells
     tells [] e = absurd cc
     tells (d ∷ cells) e =
-        ⊎_elim {C = IsIn c (d ∷ cells)} (λ f. subst (λ (z : Cell). IsIn c (z ∷ cells)) ((cell_eq_decides c d).0 f) here) (λ f. later d (tells cells f)) (or_true (cell_eq c d) (is_among cells c) e)
+        ⊎_elim {C = IsIn c (d ∷ cells)} (λ f. subst (λ (z : Cell). IsIn c (z ∷ cells)) ((cell_eq_decides c d).0 f) here) (λ f. later d (tells cells f)) (or_cases (cell_eq c d) (is_among cells c) e)
 
     from : (cells : List Cell) → IsIn c cells → is_among cells c ≡ true
     from [] h = elim h [ ]
@@ -93,7 +94,7 @@ with_cells set cell s h c = ((λ k. there (from_IsIn-filter test (cells_in 8 8) 
     test d = cell_eq d cell || is_among set d
 
     there : IsIn c (cells_in 8 8) × (test c ≡ true) → (c ≡ cell) ⊎ IsIn c set
-    there k = ⊎_elim (λ e. inl ((cell_eq_decides c cell).0 e)) (λ e. inr ((is_among_decides set c).0 e)) (or_true (cell_eq c cell) (is_among set c) k.1)
+    there k = ⊎_elim (λ e. inl ((cell_eq_decides c cell).0 e)) (λ e. inr ((is_among_decides set c).0 e)) (or_cases (cell_eq c cell) (is_among set c) k.1)
 
     first : c ≡ cell → IsIn c (cells_that test)
     first e = IsIn-filter test {xs = cells_in 8 8} (rw e (IsIn-cells_in 8 8 cell h)) (rw ((cell_eq_decides c cell).1 e) refl)
@@ -265,3 +266,11 @@ outside set c s out = go (is_among set c) refl
     go false e = e
     go true e =
         absurd (out (from_IsIn-cells_in 8 8 c (from_IsIn-filter (λ d. is_among set d) (cells_in 8 8) (subst (λ (z : List Cell). IsIn c z) s ((is_among_decides set c).0 e))).0))
+
+-- what the test finds is in the set
+pub in_set : (set : List Cell) (d : Cell) → is_among set d ≡ true → IsIn d set
+in_set set d e = (is_among_decides set d).0 e
+
+-- what is in the set, the test finds
+pub has_in : (set : List Cell) (d : Cell) → IsIn d set → is_among set d ≡ true
+has_in set d m = (is_among_decides set d).1 m

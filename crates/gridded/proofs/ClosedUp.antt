@@ -1,20 +1,21 @@
 -- A part of a gridded permutation whose letters close up is gridded, stands in it, and holds the same patterns.
 use Rattle.std.proofs.Common.{◌≡◌, ◌≤◌, ◌<◌, ℕ, zero, suc, Bool, true, List, [], ◌∷◌, length, refl, sym, ap, ◌∙◌, subst, arith}
-use Rattle.std.specs.Prelude.{map, ◌↔◌, nat_lt}
+use Rattle.std.specs.Prelude.{map, nat_lt}
 use Rattle.std.specs.List.{AllByRecursion, AllZip, filter, remove, list_all}
 use Rattle.std.proofs.lemmas.List.{length-map}
 use Rattle.std.proofs.lemmas.List.Elements.{All-from_recursion}
 use Rattle.std.proofs.lemmas.List.Sums.{count_by-le-length}
 use Rattle.std.proofs.lemmas.Bool.Decides.{nat_tests}
-use Rattle.patterns.specs.Parts.{IsPart, IsIn}
 use Rattle.lists.specs.Parts.IsPart.{none, kept, left_out}
 use Rattle.lists.specs.Members.IsIn.{here, later}
+use Rattle.lists.specs.Parts.{IsPart}
+use Rattle.lists.specs.Members.{IsIn}
+use Rattle.lists.proofs.Tests.{same_test}
+use Rattle.lists.proofs.Members.{IsIn-map}
+use Rattle.lists.proofs.Parts.{IsPart-itself, IsPart-map, filter-IsPart, length-IsPart}
 use Rattle.patterns.specs.Occurs.{IsSameOrder, is_match}
 use Rattle.patterns.specs.Ranks.{rank, standardised}
-use Rattle.patterns.proofs.Booleans.{same_test}
-use Rattle.patterns.proofs.Lists.{IsIn-map}
 use Rattle.patterns.proofs.Occurrences.{match_from}
-use Rattle.patterns.proofs.PartLaws.{IsPart-itself, IsPart-map, filter-IsPart, length-IsPart}
 use Rattle.patterns.proofs.Standard.{rank-lt-length, rank_order, standardised_same_order}
 use Rattle.gridded.specs.declared.cell.Cell.{Cell}
 use Rattle.gridded.specs.Grids.{Point, points, letter_of, same_cell, may_follow, is_consistent, holds, Holds, IsGridded, FitTogether}

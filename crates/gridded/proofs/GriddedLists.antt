@@ -2,15 +2,18 @@
 use Rattle.std.proofs.Common.{ℕ, ◌<◌, List, [], ◌∷◌, ap, sym, subst, ◌∙◌, arith}
 use Rattle.std.specs.Prelude.{map}
 use Rattle.std.specs.List.{range_with_len, AllByRecursion}
-use Rattle.patterns.specs.Parts.{IsIn, NoRepeats}
-use Rattle.patterns.proofs.Lists.{IsIn-map, IsIn-filter, from_IsIn-map, from_IsIn-filter, NoRepeats-map, NoRepeats-filter}
-use Rattle.patterns.proofs.NoRepeat.{IsIn-flat_map, from_IsIn-flat_map, IsIn-range_with_len, in_range_with_len, IsIn-words, from_IsIn-words, NoRepeats-flat_map, NoRepeats-range_with_len, NoRepeats-words}
-use Rattle.patterns.specs.Words.{words, has_no_repeats}
-use Rattle.patterns.proofs.Booleans.{and_true, both_true}
+use Rattle.std.proofs.lemmas.Bool.{and_parts, and_from}
+use Rattle.patterns.specs.Words.{has_no_repeats}
 use Rattle.gridded.specs.declared.cell.Cell.{Cell}
 use Rattle.gridded.specs.Grids.{Point, cells_in, points_in, gridded_of, is_gridded, is_consistent}
 use Rattle.gridded.specs.Orders.{letters_of, cells_of}
 use Rattle.gridded.specs.Laws.{IsCellOf, IsGriddedOf}
+use Rattle.lists.specs.Members.{IsIn, NoRepeats}
+use Rattle.lists.proofs.Members.{IsIn-map, IsIn-filter, from_IsIn-map, from_IsIn-filter, IsIn-flat_map, from_IsIn-flat_map}
+use Rattle.lists.proofs.Repeats.{NoRepeats-map, NoRepeats-filter, NoRepeats-flat_map}
+use Rattle.lists.proofs.Ranges.{IsIn-range_with_len, in_range_with_len, NoRepeats-range_with_len}
+use Rattle.lists.proofs.Words.{IsIn-words, from_IsIn-words, NoRepeats-words}
+use Rattle.lists.specs.Words.{words}
 
 -- ---- cells and points
 abbrev column_of : ℕ → ℕ → List Cell
@@ -56,12 +59,12 @@ from_all_in w h n (p ∷ g) k = let at = from_IsIn-points_in w h n p k.0 in let 
 pub IsIn-gridded_of : (w h n : ℕ) (g : List Point) → IsGriddedOf w h n g → IsIn g (gridded_of w h n)
 IsIn-gridded_of w h n g k =
     IsIn-filter is_gridded (subst (λ m. IsIn g (words (points_in w h n) m)) k.as_long (IsIn-words (points_in w h n) g (all_in w h n g k.below k.in_grid)))
-    (both_true (has_no_repeats (letters_of g)) (is_consistent g) k.distinct k.consistent)
+    (and_from (has_no_repeats (letters_of g)) (is_consistent g) k.distinct k.consistent)
 
 pub from_IsIn-gridded_of : (w h n : ℕ) (g : List Point) → IsIn g (gridded_of w h n) → IsGriddedOf w h n g
 from_IsIn-gridded_of w h n g k =
     let kept = from_IsIn-filter is_gridded (words (points_in w h n) n) k in
-    let tests = and_true (has_no_repeats (letters_of g)) (is_consistent g) kept.1 in
+    let tests = and_parts (has_no_repeats (letters_of g)) (is_consistent g) kept.1 in
     let word = from_IsIn-words (points_in w h n) n g kept.0 in
     let each = from_all_in w h n g word.0 in
     record { as_long = word.1; below = each.0; distinct = tests.0; consistent = tests.1; in_grid = each.1 }

@@ -1,19 +1,19 @@
 -- Laws of holding: by itself, one after another, of patterns as long as what holds them, and of single points.
 use Rattle.std.proofs.Common.{◌≡◌, ℕ, ◌<◌, ◌≤◌, Bool, true, false, List, [], ◌∷◌, length, refl, sym, ap, ◌∙◌, subst, arith}
-use Rattle.std.specs.Prelude.{◌&&◌, ◌==◌, IsTrue, Decides}
+use Rattle.std.specs.Prelude.{◌&&◌, IsTrue, Decides}
 use Rattle.std.specs.List.{AllZip, AllByRecursion, All}
 use Rattle.std.proofs.lemmas.List.{length-map}
 use Rattle.std.proofs.lemmas.List.Elements.{All-head, All-tail}
-use Rattle.patterns.proofs.Booleans.{and_true, both_true}
-use Rattle.patterns.specs.Parts.{IsPart, IsIn}
+use Rattle.std.proofs.lemmas.Bool.{and_from}
 use Rattle.lists.specs.Members.IsIn.{here, later}
+use Rattle.lists.specs.Parts.{IsPart}
+use Rattle.lists.specs.Members.{IsIn}
+use Rattle.lists.proofs.Parts.{IsPart-itself, IsPart-nothing, IsIn-IsPart, length-IsPart, IsPart-as_long}
 use Rattle.patterns.specs.Occurs.{stands_as, stand_alike, is_match, IsSameOrder}
 use Rattle.patterns.specs.Laws.{IsPermutationOf}
-use Rattle.patterns.proofs.PartLaws.{IsPart-itself, IsPart-nothing, IsIn-IsPart, length-IsPart, IsPart-as_long}
 use Rattle.patterns.proofs.Occurrences.{occurs_decides, match_tells, match_from, alike_from}
 use Rattle.patterns.proofs.Compose.{Occurs-trans}
 use Rattle.patterns.proofs.Permutations.{same_permutations}
-use Rattle.gridded.specs.declared.cell.Cell.{Cell}
 use Rattle.gridded.specs.Grids.{Point, same_cell, letter_of, holds, Holds, IsGridded}
 use Rattle.gridded.specs.Orders.{letters_of}
 use Rattle.gridded.specs.OrderLaws.{cell_eq_decides}
@@ -59,12 +59,12 @@ same_cell_trans p q r e f = same_cell_from p r (same_cell_tells p q e ∙ same_c
 stand_itself : (x : Point) (xs : List Point) → stands_as letter_of same_cell x x xs xs ≡ true
 stand_itself x [] = refl
 stand_itself x (y ∷ xs) =
-    both_true (stand_alike x.letter x.letter y.letter y.letter) (stands_as letter_of same_cell x x xs xs) (alike_from x.letter x.letter y.letter y.letter (((λ h. h), (λ h. h)), ((λ h. h), (λ h. h)))) (stand_itself x xs)
+    and_from (stand_alike x.letter x.letter y.letter y.letter) (stands_as letter_of same_cell x x xs xs) (alike_from x.letter x.letter y.letter y.letter (((λ h. h), (λ h. h)), ((λ h. h), (λ h. h)))) (stand_itself x xs)
 
 pub fits_itself : (xs : List Point) → fits xs xs ≡ true
 fits_itself [] = refl
 fits_itself (x ∷ xs) =
-    both_true (same_cell x x) (stands_as letter_of same_cell x x xs xs && fits xs xs) (same_cell_from x x refl) (both_true (stands_as letter_of same_cell x x xs xs) (fits xs xs) (stand_itself x xs) (fits_itself xs))
+    and_from (same_cell x x) (stands_as letter_of same_cell x x xs xs && fits xs xs) (same_cell_from x x refl) (and_from (stands_as letter_of same_cell x x xs xs) (fits xs xs) (stand_itself x xs) (fits_itself xs))
 
 pub Holds-part : {p g : List Point} → IsPart p g → Holds g p
 Holds-part {p} h = Holds-fits h (fits_itself p)

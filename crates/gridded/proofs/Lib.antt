@@ -16,3 +16,6 @@ pub mod SmallFits
 pub mod SetCells
 pub mod Pairs
 mod Rows
+pub mod Positions
+pub mod Ranked
+pub mod Restricting

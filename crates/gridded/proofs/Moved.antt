@@ -4,8 +4,8 @@ use Rattle.std.specs.Prelude.{map, All, IsTrue}
 use Rattle.std.specs.List.{AllByRecursion}
 use Rattle.std.proofs.lemmas.List.{length-map}
 use Rattle.std.proofs.lemmas.List.Elements.{All-map}
-use Rattle.patterns.specs.Parts.{IsIn}
 use Rattle.lists.specs.Members.IsIn.{here, later}
+use Rattle.lists.specs.Members.{IsIn}
 use Rattle.patterns.specs.Words.{has_no_repeats}
 use Rattle.gridded.specs.declared.cell.Cell.{Cell}
 use Rattle.gridded.specs.Grids.{Point, points, is_consistent, IsGridded}
@@ -55,3 +55,18 @@ IsGriddedOf-moved f g w h n new_w new_h k e inside = record {
   consistent = e;
   in_grid = inside;
 }
+
+-- the cell of a point lies in the grid where each cell does
+pub cell_inside : (w h : ℕ) (g : List Point) → AllByRecursion (λ c. IsCellOf w h c) (cells_of g) → (q : Point) → IsIn q g → IsCellOf w h q.cell
+cell_inside w h [] k q i = elim i [ ]
+cell_inside w h (x ∷ g) k _ here = k.0
+cell_inside w h (x ∷ g) k q (later _ i) = cell_inside w h g k.1 q i
+
+-- the points of a gridded permutation lie in its grid
+pub cell_in : (w h n : ℕ) {g : List Point} {p : Point} → IsGriddedOf w h n g → IsIn p g → IsCellOf w h p.cell
+cell_in w h n {g} {p} k m = cell_inside w h g k.in_grid p m
+
+-- points that are put into cells of the grid lie in it
+pub relocated_inside : (w h : ℕ) (F : Point → Cell) (g : List Point) → ((q : Point) → IsIn q g → IsCellOf w h (F q)) → AllByRecursion (λ c. IsCellOf w h c) (cells_of (map (relocated F) g))
+relocated_inside w h F [] k = tt
+relocated_inside w h F (x ∷ g) k = (k x here, relocated_inside w h F g (λ q i. k q (later x i)))

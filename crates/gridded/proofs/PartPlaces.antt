@@ -14,7 +14,7 @@ use Rattle.gridded.specs.Parts.{HasRoom, closed_up}
 use Rattle.gridded.proofs.Points.{points-of_fields}
 use Rattle.gridded.proofs.ClosedUp.{FitTogether-closed_up, points-closed_up}
 
-points-push : (letters : List ℕ) (cells : List Cell) (l : ℕ) (c : Cell) → length letters ≡ length cells → points (letters ++ l ∷ []) (cells ++ c ∷ []) ≡ points letters cells ++ record { letter = l; cell = c } ∷ []
+pub points-push : (letters : List ℕ) (cells : List Cell) (l : ℕ) (c : Cell) → length letters ≡ length cells → points (letters ++ l ∷ []) (cells ++ c ∷ []) ≡ points letters cells ++ record { letter = l; cell = c } ∷ []
 points-push [] [] l c e = refl
 points-push [] (d ∷ cells) l c e = absurd (omega arith)
 points-push (m ∷ letters) [] l c e = absurd (omega arith)

@@ -2,10 +2,10 @@
 use Rattle.std.specs.Prelude.{◌≡◌, ◌<◌, ◌≤◌, ℕ, Bool, ◌||◌, ◌==◌, ◌+◌, ◌*◌, ◌^◌, cond, List, [], ◌∷◌, map, filter, ◌⊎◌, ◌↔◌}
 use Rattle.std.specs.Int.{bit_at}
 use Rattle.std.specs.List.{list_any, range_with_len, sum_by}
-use Rattle.patterns.specs.Parts.{IsIn}
 use Rattle.gridded.specs.declared.cell.Cell.{Cell}
 use Rattle.gridded.specs.Grids.{cells_in}
 use Rattle.gridded.specs.Orders.{cell_eq}
+use Rattle.lists.specs.Members.{IsIn}
 
 -- the cells with x and y below 8 that pass a test, ascending
 unfoldable pub cells_that : (Cell → Bool) → List Cell

@@ -1,11 +1,11 @@
 -- Laws of the definitions, as facts that clauses can name.
 use Rattle.std.specs.Prelude.{◌≡◌, ◌<◌, ◌↔◌, ℕ, true, List, length}
 use Rattle.std.specs.List.{AllByRecursion}
-use Rattle.patterns.specs.Parts.{IsIn, NoRepeats}
 use Rattle.patterns.specs.Words.{has_no_repeats}
 use Rattle.gridded.specs.declared.cell.Cell.{Cell}
 use Rattle.gridded.specs.Grids.{Point, is_consistent, gridded_of}
 use Rattle.gridded.specs.Orders.{letters_of, cells_of}
+use Rattle.lists.specs.Members.{IsIn, NoRepeats}
 
 abbrev pub IsCellOf : ℕ → ℕ → Cell → Type 0
 IsCellOf w h c = (c.x < w) × (c.y < h)

@@ -1,6 +1,6 @@
 -- Parts of a gridded permutation, the letters of which close up.
 use Rattle.std.specs.Prelude.{◌≡◌, ◌≤◌, ℕ, Bool, List, length, map, filter}
-use Rattle.std.specs.List.{remove}
+use Rattle.std.specs.List.{remove, list_all}
 use Rattle.patterns.specs.Ranks.{rank}
 use Rattle.patterns.specs.Occurs.{IsSameOrder}
 use Rattle.gridded.specs.declared.cell.Cell.{Cell}
@@ -34,3 +34,7 @@ pub record HasRoom (len : ℕ) (letters : List ℕ) (cells : List Cell) : Type 0
   pub few : len ≤ 9
   pub letter_places : length letters ≡ 9
   pub cell_places : length cells ≡ 9
+
+-- all points lie in cells that pass
+abbrev pub lies_in : (Cell → Bool) → List Point → Bool
+lies_in test g = list_all test (cells_of g)

@@ -1,33 +1,25 @@
 -- Where no member holds any of some patterns, none holds one of them.
-use Rattle.std.proofs.Common.{◌≡◌, ◌<◌, ◌+◌, ℕ, zero, suc, Bool, true, List, [], ◌∷◌, length, refl, sym, ap, ◌∙◌, arith}
-use Rattle.std.specs.Prelude.{◌&&◌, ◌==◌, not, map, filter}
-use Rattle.std.specs.List.{list_all, list_any}
-use Rattle.std.specs.Ordering.{is_eq}
-use Rattle.std.specs.declared.cmp.Ordering.TheVariants.{Equal}
-use Rattle.std.specs.Cmp.Lexicographic.{slice_cmp, lists_total, lists_ties}
-use Rattle.std.proofs.lemmas.Bool.Decides.{Decides-eqb}
-use Rattle.patterns.specs.Parts.{IsIn}
-use Rattle.lists.specs.Members.IsIn.{here}
-use Rattle.patterns.proofs.Booleans.{and_true, both_true}
-use Rattle.patterns.proofs.Lists.{IsIn-filter, from_IsIn-filter}
-use Rattle.patterns.proofs.NoRepeat.{in_range_with_len}
+use Rattle.std.proofs.Common.{◌≡◌, suc, true, List, [], ◌∷◌, length, refl, sym, ◌∙◌, arith}
+use Rattle.std.specs.Prelude.{◌&&◌, not, map, filter}
+use Rattle.std.specs.List.{list_all}
+use Rattle.std.specs.Cmp.Lexicographic.{slice_cmp, lists_total}
+use Rattle.std.proofs.lemmas.Bool.{and_parts, and_from}
+use Rattle.lists.proofs.Members.{empty_list, IsIn-filter, from_IsIn-filter}
+use Rattle.lists.proofs.Tests.{each_passes, which_passes}
+use Rattle.lists.specs.Members.{IsIn}
 use Rattle.gridded.specs.Grids.{Point, holds, gridded_of}
 use Rattle.gridded.specs.Orders.{gridded_cmp}
-use Rattle.gridded.specs.OrderLaws.{gridded_total, gridded_exact, gridded_ties, gridded_eq_decides}
-use Rattle.sequences.specs.Ascending.{in_order, exact_sequences}
+use Rattle.gridded.specs.OrderLaws.{gridded_total, gridded_exact}
+use Rattle.sequences.specs.Ascending.{in_order}
 use Rattle.sequences.proofs.InOrder.{list_all-in_order}
-use Rattle.tiling_core.specs.Tiles.{Tiles, is_member, count}
+use Rattle.tiling_core.specs.Tiles.{Tiles, is_member}
 use Rattle.gridded.specs.Places.{fits_grid}
-use Rattle.tiling_core.specs.Measures.{weight}
 use Rattle.tiling_core.specs.Patterns.{also}
 use Rattle.emptiness.specs.Emptiness.{IsEmpty, MembersWithinWeight}
-use Rattle.tiling_core.proofs.Further.{holds_one}
 use Rattle.emptiness.specs.Inferable.{has_no_member, is_inferable}
 use Rattle.emptiness.proofs.NoMembers.{none_of_any_length}
-use Rattle.tiling_core.proofs.Deciding.{each_passes, one_passes}
-
-lists_exact : (a b : List (List Point)) → slice_cmp gridded_cmp a b ≡ Equal → a ≡ b
-lists_exact a b e = exact_sequences (λ x y h. (gridded_eq_decides x y).0 h) a b (lists_ties gridded_cmp gridded_ties a b ∙ ap is_eq e)
+use Rattle.tiling_core.proofs.Kept.{lists_exact}
+use Rattle.tiling_core.proofs.Ordered.{holds_one}
 
 abbrev ordered : List (List (List Point)) → List (List (List Point))
 ordered lists = map (λ patterns. in_order gridded_cmp patterns) lists
@@ -41,16 +33,12 @@ one_list_more t patterns g = list_all-in_order (slice_cmp gridded_cmp) (lists_to
 pub which_is_held : (t : Tiles) (patterns : List (List Point)) (g : List Point) → is_member (also t [] (patterns ∷ [])) g ≡ true
     → (p : List Point) × IsIn p (in_order gridded_cmp patterns) × (is_member (also t [] ((p ∷ []) ∷ [])) g ≡ true)
 which_is_held t patterns g e =
-    let a = and_true (fits_grid t.width t.height g) _ e in
-    let b = and_true (list_all (λ p. not (holds g p)) (in_order gridded_cmp t.obstructions)) _ a.1 in
-    let c = and_true (holds_one g (in_order gridded_cmp patterns)) (list_all (holds_one g) (ordered t.requirements)) (sym (one_list_more t patterns g) ∙ b.1) in
-    let w = one_passes (λ p. holds g p) (in_order gridded_cmp patterns) c.0 in
+    let a = and_parts (fits_grid t.width t.height g) _ e in
+    let b = and_parts (list_all (λ p. not (holds g p)) (in_order gridded_cmp t.obstructions)) _ a.1 in
+    let c = and_parts (holds_one g (in_order gridded_cmp patterns)) (list_all (holds_one g) (ordered t.requirements)) (sym (one_list_more t patterns g) ∙ b.1) in
+    let w = which_passes (λ p. holds g p) (in_order gridded_cmp patterns) c.0 in
     let held : holds_one g (w.0 ∷ []) ≡ true = rw w.2 refl in
-    (w.0, w.1, both_true _ _ a.0 (both_true _ _ b.0 (one_list_more t (w.0 ∷ []) g ∙ both_true _ _ held c.1)))
-
-empty_list : {X : Type 0} (xs : List X) → ((x : X) → IsIn x xs → ⊥) → length xs ≡ 0
-empty_list [] f = refl
-empty_list (x ∷ xs) f = absurd (f x here)
+    (w.0, w.1, and_from _ _ a.0 (and_from _ _ b.0 (one_list_more t (w.0 ∷ []) g ∙ and_from _ _ held c.1)))
 
 is_in_none : {X : Type 0} {x : X} (xs : List X) → IsIn x xs → length xs ≡ 0 → ⊥
 is_in_none [] m e = elim m [ ]
@@ -61,11 +49,11 @@ pub none_holds : MembersWithinWeight → (t : Tiles) (patterns : List (List Poin
 none_holds within t patterns e n = empty_list (filter (λ g. is_member (also t [] (patterns ∷ [])) g) (gridded_of t.width t.height n)) (λ g m. refuted g (from_IsIn-filter _ (gridded_of t.width t.height n) m))
   where
     last_test : (p : List Point) → is_inferable t p ≡ true → has_no_member (also t [] ((p ∷ []) ∷ [])) ≡ true
-    last_test p i = (and_true _ (has_no_member (also t [] ((p ∷ []) ∷ []))) i).1
+    last_test p i = (and_parts _ (has_no_member (also t [] ((p ∷ []) ∷ []))) i).1
 
     refuted : (g : List Point) → IsIn g (gridded_of t.width t.height n) × (is_member (also t [] (patterns ∷ [])) g ≡ true) → ⊥
     refuted g m =
         let w = which_is_held t patterns g m.1 in
-        let inferable : is_inferable t w.0 ≡ true = each_passes (is_inferable t) w.1 (list_all-in_order gridded_cmp gridded_total gridded_exact (is_inferable t) patterns ∙ e) in
+        let inferable : is_inferable t w.0 ≡ true = each_passes (is_inferable t) (list_all-in_order gridded_cmp gridded_total gridded_exact (is_inferable t) patterns ∙ e) w.1 in
         let none = none_of_any_length within (also t [] ((w.0 ∷ []) ∷ [])) (last_test w.0 inferable) n in
         is_in_none (filter (λ h. is_member (also t [] ((w.0 ∷ []) ∷ [])) h) (gridded_of t.width t.height n)) (IsIn-filter (λ h. is_member (also t [] ((w.0 ∷ []) ∷ [])) h) m.0 w.2) none

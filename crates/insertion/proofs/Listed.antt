@@ -1,14 +1,11 @@
 -- The insertions column by column are all of them.
-use Rattle.std.proofs.Common.{◌≡◌, ◌≤◌, ◌+◌, ℕ, zero, suc, add-zero, Bool, true, false, cond, List, [], ◌∷◌, ◌++◌, refl, sym, ap, ◌∙◌, arith, append_assoc, append-nil}
+use Rattle.std.proofs.Common.{◌≡◌, ◌≤◌, ◌+◌, ℕ, Bool, true, false, cond, List, [], ◌∷◌, ◌++◌, refl, sym, ap, ◌∙◌, arith, append_assoc, append-nil}
 use Rattle.std.specs.Prelude.{◌&&◌, not, map, filter}
 use Rattle.std.specs.List.{flat_map, range_with_len}
 use Rattle.std.proofs.lemmas.List.{map-append}
 use Rattle.std.proofs.lemmas.List.FromFn.{filter_of_map_range_with_len_more}
 use Rattle.std.proofs.lemmas.List.Elements.{filter-append}
 use Rattle.std.proofs.lemmas.Grind.{flat_map-append}
-use Rattle.patterns.specs.Parts.{IsIn}
-use Rattle.patterns.proofs.Booleans.{same_test}
-use Rattle.patterns.proofs.Lists.{IsIn-filter, from_IsIn-filter}
 use Rattle.gridded.specs.declared.cell.Cell.{Cell}
 use Rattle.gridded.specs.Grids.{cells_in}
 use Rattle.gridded.specs.CellSets.{cells_that, is_among}
@@ -20,6 +17,10 @@ use Rattle.tiling_core.specs.Patterns.{forbids, active_cells, requires_list}
 use Rattle.rule_kinds.specs.declared.kind.Kind.{Kind}
 use Rattle.rule_kinds.specs.Choices.{insertions}
 use Rattle.insertion.specs.Open.{is_open, insert_at, insertion_at, insertions_in}
+use Rattle.lists.proofs.Ranges.{range_next}
+use Rattle.lists.specs.Members.{IsIn}
+use Rattle.lists.proofs.Tests.{same_test}
+use Rattle.lists.proofs.Members.{IsIn-filter, from_IsIn-filter}
 
 abbrev at : ℕ → ℕ → Cell
 at x y = record { x = x; y = y }
@@ -44,22 +45,12 @@ column_step active required x y old before after e f =
 abbrev pub insertions_below : List Cell → List Cell → ℕ → ℕ → List Kind
 insertions_below active required h x = flat_map (λ i. insertions_in active required i h) (range_with_len 0 x)
 
-range_next : (a n : ℕ) → range_with_len a (suc n) ≡ range_with_len a n ++ (a + n) ∷ []
-range_next a zero = rw (add-zero a) refl
-range_next a (suc n) = let e : a + 1 + n ≡ a + suc n = omega arith in ap (λ rest. a ∷ rest) (range_next (a + 1) n ∙ rw e refl)
-
-range_more : (n : ℕ) → range_with_len 0 (n + 1) ≡ range_with_len 0 n ++ n ∷ []
-range_more n =
-    let up : n + 1 ≡ suc n = omega arith in
-    let from_0 : 0 + n ≡ n = omega arith in
-    rw up (range_next 0 n ∙ rw from_0 refl)
-
 pub columns_step : (active required : List Cell) (h x : ℕ) (before after : List Kind) → before ≡ insertions_below active required h x → after ≡ before ++ insertions_in active required x h → after ≡ insertions_below active required h (x + 1)
 columns_step active required h x before after e f =
     f ∙ ap (λ kinds. kinds ++ insertions_in active required x h) e
     ∙ ap (λ kinds. insertions_below active required h x ++ kinds) (sym (append-nil (insertions_in active required x h)))
     ∙ sym (flat_map-append (λ i. insertions_in active required i h) (range_with_len 0 x) (x ∷ []))
-    ∙ ap (flat_map (λ i. insertions_in active required i h)) (sym (range_more x))
+    ∙ ap (flat_map (λ i. insertions_in active required i h)) (sym (range_next x))
 
 in_columns : (test : Cell → Bool) (h : ℕ) (xs : List ℕ) → flat_map (λ i. map insert_at (filter test (map (at i) (range_with_len 0 h)))) xs ≡ map insert_at (filter test (flat_map (λ i. map (at i) (range_with_len 0 h)) xs))
 in_columns test h [] = refl

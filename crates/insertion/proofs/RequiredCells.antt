@@ -4,7 +4,7 @@ use Rattle.std.specs.Prelude.{◌&&◌, ◌||◌, nat_eq, All}
 use Rattle.std.specs.List.{list_any}
 use Rattle.std.specs.Cmp.Lexicographic.{pointwise}
 use Rattle.std.proofs.lemmas.List.Folds.{list_any_more}
-use Rattle.patterns.proofs.Booleans.{and_end, and_none, or_end}
+use Rattle.std.proofs.Math.Bool.{and-true, and-false, or-false}
 use Rattle.gridded.specs.declared.cell.Cell.{Cell}
 use Rattle.gridded.specs.Grids.{Point, IsGridded}
 use Rattle.gridded.specs.Orders.{cells_of, cell_eq, gridded_eq}
@@ -20,17 +20,17 @@ is_alone_in c patterns = pointwise gridded_eq (point_at c ∷ []) patterns
 
 -- ---- one list
 pub another_number : (set : List Cell) (patterns : List (List Point)) → IsCellSet set → length patterns ≢ 1 → set ≡ cells_that (λ c. is_among set c || is_alone_in c patterns)
-another_number set patterns s n = s ∙ same_set (λ c. is_among set c) (λ c. is_among set c || is_alone_in c patterns) (λ c k. sym (ap (λ b. is_among set c || b) (go c patterns n) ∙ or_end (is_among set c)))
+another_number set patterns s n = s ∙ same_set (λ c. is_among set c) (λ c. is_among set c || is_alone_in c patterns) (λ c k. sym (ap (λ b. is_among set c || b) (go c patterns n) ∙ or-false (is_among set c)))
   where
     go : (c : Cell) (lists : List (List Point)) → length lists ≢ 1 → is_alone_in c lists ≡ false
     go c [] m = refl
     go c (g ∷ []) m = absurd (m refl)
-    go c (g ∷ h ∷ lists) m = and_none (gridded_eq (point_at c) g)
+    go c (g ∷ h ∷ lists) m = and-false (gridded_eq (point_at c) g)
 
 not_one_point : (c : Cell) (g : List Point) → length g ≢ 1 → gridded_eq (point_at c) g ≡ false
 not_one_point c [] m = refl
 not_one_point c (p ∷ []) m = absurd (m refl)
-not_one_point c (p ∷ q ∷ g) m = ap (λ b. b && pointwise cell_eq (c ∷ []) (p.cell ∷ q.cell ∷ cells_of g)) (and_none (nat_eq 0 p.letter))
+not_one_point c (p ∷ q ∷ g) m = ap (λ b. b && pointwise cell_eq (c ∷ []) (p.cell ∷ q.cell ∷ cells_of g)) (and-false (nat_eq 0 p.letter))
 
 -- a list of one item
 one_item : {X : Type 0} (xs : List X) (x : X) → length xs ≡ 1 → x ≡ get_or xs 0 x → xs ≡ x ∷ []
@@ -39,11 +39,11 @@ one_item (y ∷ []) x n e = ap (λ z. z ∷ []) (sym e)
 one_item (y ∷ z ∷ xs) x n e = absurd (omega arith)
 
 no_point : (set : List Cell) (g : List Point) → IsCellSet set → length g ≢ 1 → set ≡ cells_that (λ c. is_among set c || is_alone_in c (g ∷ []))
-no_point set g s n = s ∙ same_set (λ c. is_among set c) (λ c. is_among set c || is_alone_in c (g ∷ [])) (λ c k. sym (ap (λ b. is_among set c || (b && true)) (not_one_point c g n) ∙ or_end (is_among set c)))
+no_point set g s n = s ∙ same_set (λ c. is_among set c) (λ c. is_among set c || is_alone_in c (g ∷ [])) (λ c k. sym (ap (λ b. is_among set c || (b && true)) (not_one_point c g n) ∙ or-false (is_among set c)))
 
 point_alone : (set : List Cell) (g : List Point) (d : Cell) → IsGridded g → length g ≡ 1 → with_cell set (get_or (cells_of g) 0 d) ≡ cells_that (λ c. is_among set c || is_alone_in c (g ∷ []))
 point_alone set g d k e =
-    one_point set g d k e ∙ same_set (λ c. is_among set c || gridded_eq (point_at c) g) (λ c. is_among set c || is_alone_in c (g ∷ [])) (λ c m. ap (λ b. is_among set c || b) (sym (and_end (gridded_eq (point_at c) g))))
+    one_point set g d k e ∙ same_set (λ c. is_among set c || gridded_eq (point_at c) g) (λ c. is_among set c || is_alone_in c (g ∷ [])) (λ c m. ap (λ b. is_among set c || b) (sym (and-true (gridded_eq (point_at c) g))))
 
 pub no_point_listed : (set : List Cell) (patterns : List (List Point)) (g : List Point) → IsCellSet set → length patterns ≡ 1 → g ≡ get_or patterns 0 g → length g ≢ 1 → set ≡ cells_that (λ c. is_among set c || is_alone_in c patterns)
 no_point_listed set patterns g s one is n = no_point set g s n ∙ ap (λ (lists : List (List Point)). cells_that (λ c. is_among set c || is_alone_in c lists)) (sym (one_item patterns g one is))

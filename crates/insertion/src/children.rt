@@ -11,7 +11,7 @@ use std::alloc::{AllocError, Global};
 use tiling_core::Tiling;
 
 /// The tiling without a pattern that lies in its grid, and that with it. The refusal is want of memory.
-#[tactic(auto, using(rule_kinds::proofs::Joined::single))]
+#[tactic(auto, using(tiling_core::proofs::Joined::single))]
 pub fn inserted(alloc: Global, tiling: &Tiling, pattern: Gridded) -> Result<Vec<Tiling>, AllocError>
     requires { in_grid tiling.now pattern ≡ true }
     ensures { IfOk result (λ both. both.items ≡ also tiling.now (pattern ∷ []) [] ∷ also tiling.now [] ((pattern ∷ []) ∷ []) ∷ []) }

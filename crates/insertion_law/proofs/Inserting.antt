@@ -1,12 +1,14 @@
 -- An insertion carries members one to one.
 use Rattle.std.proofs.Common.{◌≡◌, ◌<◌, ℕ, zero, suc, Bool, true, false, List, [], ◌∷◌, refl, sym, ap, ◌∙◌, arith}
 use Rattle.std.specs.Prelude.{◌||◌, not, if◌then◌else◌, slice_index_or}
-use Rattle.patterns.proofs.Booleans.{and_true, or_end, not_true}
+use Rattle.std.proofs.lemmas.Bool.{and_parts, not-true}
+use Rattle.std.proofs.Math.Bool.{or-false}
 use Rattle.gridded.specs.Grids.{Point, holds}
 use Rattle.tiling_core.specs.Tiles.{Tiles}
 use Rattle.tiling_core.specs.Carried.{MemberOf}
 use Rattle.tiling_core.specs.Patterns.{also}
-use Rattle.tiling_core.proofs.Further.{holds_one, holding_none, holding_one, from_further}
+use Rattle.tiling_core.proofs.Further.{holding_none, holding_one, from_further}
+use Rattle.tiling_core.proofs.Ordered.{holds_one}
 use Rattle.rule_kinds.specs.Children as C
 use Rattle.insertion_law.specs.Inserting.{InsertionsCarryMembers}
 
@@ -27,12 +29,12 @@ on_its_side t r n g m false e = holding_none t (r ∷ []) n g m (rw e refl)
 back_from : (t : Tiles) (r : List Point) (n i : ℕ) (h : List Point) → i < 2 → MemberOf (slice_index_or (inserted t r) i t) n h → MemberOf t n h × (side (holds h r) ≡ i)
 back_from t r n zero h s m =
     let k = from_further t (r ∷ []) [] n h m in
-    let unheld : holds h r ≡ false = not_true (holds h r) (and_true (not (holds h r)) true k.1).0 in
+    let unheld : holds h r ≡ false = not-true (holds h r) (and_parts (not (holds h r)) true k.1).0 in
     (k.0, ap side unheld)
 back_from t r n (suc zero) h s m =
     let k = from_further t [] ((r ∷ []) ∷ []) n h m in
-    let held : (holds h r || false) ≡ true = (and_true (holds_one h (r ∷ [])) true k.2).0 in
-    (k.0, ap side (sym (or_end (holds h r)) ∙ held))
+    let held : (holds h r || false) ≡ true = (and_parts (holds_one h (r ∷ [])) true k.2).0 in
+    (k.0, ap side (sym (or-false (holds h r)) ∙ held))
 back_from t r n (suc (suc i)) h s m = absurd (omega arith)
 
 pub insertions_carry_members : InsertionsCarryMembers

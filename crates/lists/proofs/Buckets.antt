@@ -1,14 +1,16 @@
 -- Lists sorted into buckets by a number of each item.
-use Rattle.std.proofs.Common.{◌≡◌, ℕ, zero, suc, ◌+◌, ◌<◌, ◌≤◌, Bool, true, false, cond, List, [], ◌∷◌, ◌++◌, refl, sym, ap, ◌∙◌, arith}
+use Rattle.std.proofs.Common.{◌≡◌, ℕ, zero, suc, ◌+◌, ◌<◌, ◌≤◌, Bool, true, false, cond, List, [], ◌∷◌, ◌++◌, refl, sym, ap, subst, ◌∙◌, ⊎_elim, arith}
 use Rattle.std.specs.Prelude.{◌==◌, not, map}
 use Rattle.std.specs.List.{filter, flat_map, range_with_len, count_by}
+use Rattle.std.proofs.lemmas.Bool.{eqb-true}
 use Rattle.std.proofs.lemmas.Bool.Decides.{nat_tests}
 use Rattle.std.proofs.lemmas.List.Elements.{filter-append}
 use Rattle.std.proofs.lemmas.List.{map-append}
-use Rattle.lists.specs.Members.{IsIn}
+use Rattle.lists.specs.Members.{IsIn, NoRepeats}
 use Rattle.lists.specs.Members.IsIn.{here, later}
-use Rattle.lists.proofs.Members.{from_IsIn-filter}
-use Rattle.lists.proofs.Ranges.{IsIn-range_with_len}
+use Rattle.lists.proofs.Members.{from_IsIn-filter, from_IsIn-flat_map, IsIn-append_cases}
+use Rattle.lists.proofs.Ranges.{IsIn-range_with_len, NoRepeats-range_with_len}
+use Rattle.lists.proofs.Repeats.{NoRepeats-filter, NoRepeats-flat_map}
 use Rattle.lists.proofs.Filters.{filter_swap, filter-map, filter_all, filter-none}
 use Rattle.lists.proofs.Counts.{count-append, count-split}
 
@@ -119,3 +121,39 @@ buckets-ascending {X} f a (suc n) xs s h =
     first_bucket f a n xs
     ∙ ap (λ l. filter (λ (x : X). f x == a) xs ++ l) (buckets-ascending f (a + 1) n (filter (λ x. not (f x == a)) xs) (Ascends-filter f (λ x. not (f x == a)) xs s) (others_within f a n xs h))
     ∙ lowest_first f a xs s (λ x m. (h x m).0)
+
+-- lists that ascend, and of which the second goes on from the first, ascend together
+pub Ascends-append : {X : Type 0} (f : X → ℕ) (xs ys : List X) → Ascends f xs → Ascends f ys → ((x y : X) → IsIn x xs → IsIn y ys → f x ≤ f y) → Ascends f (xs ++ ys)
+Ascends-append f [] ys s t h = t
+Ascends-append {X} f (x ∷ xs) ys s t h =
+    ((λ y m. ⊎_elim {C = f x ≤ f y} (λ i. s.0 y i) (λ i. h x y here i) (IsIn-append_cases xs ys m)), Ascends-append f xs ys s.1 t (λ z y i j. h z y (later x i) j))
+
+-- items of one number ascend
+pub Ascends-constant : {X : Type 0} (f : X → ℕ) (a : ℕ) (xs : List X) → ((x : X) → IsIn x xs → f x ≡ a) → Ascends f xs
+Ascends-constant f a [] h = tt
+Ascends-constant f a (x ∷ xs) h = ((λ y m. let e = h x here in let d = h y (later x m) in omega (arith, e, d)), Ascends-constant f a xs (λ y m. h y (later x m)))
+
+-- what is in the buckets is in the list, and its number is among theirs
+pub from_IsIn-buckets : {X : Type 0} (f : X → ℕ) (is : List ℕ) (xs : List X) {x : X} → IsIn x (buckets f is xs) → IsIn x xs × IsIn (f x) is
+from_IsIn-buckets {X} f is xs {x} m =
+    let k = from_IsIn-flat_map (λ (i : ℕ). filter (λ (y : X). f y == i) xs) is m in
+    let l = from_IsIn-filter (λ (y : X). f y == k.0) xs k.2 in
+    (l.0, subst (λ (i : ℕ). IsIn i is) (sym (eqb-true (f x) k.0 l.1)) k.1)
+
+-- buckets ascend
+pub Ascends-buckets : {X : Type 0} (f : X → ℕ) (a n : ℕ) (xs : List X) → Ascends f (buckets f (range_with_len a n) xs)
+Ascends-buckets f a zero xs = tt
+Ascends-buckets {X} f a (suc n) xs =
+    Ascends-append f (filter (λ x. f x == a) xs) (buckets f (range_with_len (a + 1) n) xs)
+    (Ascends-constant f a (filter (λ x. f x == a) xs) (λ x m. is_a x m)) (Ascends-buckets f (a + 1) n xs)
+    (λ x y m i. let e = is_a x m in let k = from_IsIn-buckets f (range_with_len (a + 1) n) xs i in let b = IsIn-range_with_len (a + 1) n (f y) k.1 in omega (arith, e, b.0))
+  where
+    is_a : (x : X) → IsIn x (filter (λ y. f y == a) xs) → f x ≡ a
+    is_a x m = eqb-true (f x) a (from_IsIn-filter (λ (y : X). f y == a) xs m).1
+
+-- buckets of a list without repeats have none
+pub NoRepeats-buckets : {X : Type 0} (f : X → ℕ) (a n : ℕ) {xs : List X} → NoRepeats xs → NoRepeats (buckets f (range_with_len a n) xs)
+NoRepeats-buckets {X} f a n {xs} r =
+    NoRepeats-flat_map (λ (i : ℕ). filter (λ (x : X). f x == i) xs) (λ i. NoRepeats-filter (λ x. f x == i) r)
+    (λ i j x m l. sym (eqb-true (f x) i (from_IsIn-filter (λ (y : X). f y == i) xs m).1) ∙ eqb-true (f x) j (from_IsIn-filter (λ (y : X). f y == j) xs l).1)
+    (NoRepeats-range_with_len a n)

@@ -1,10 +1,11 @@
 -- Sums over lists, and how many items pass.
-use Rattle.std.proofs.Common.{◌≡◌, ℕ, ◌+◌, ◌<◌, ◌≤◌, Bool, true, false, cond, List, [], ◌∷◌, ◌++◌, refl, sym, ap, ◌∙◌, arith}
+use Rattle.std.proofs.Common.{◌≡◌, ℕ, ◌+◌, ◌<◌, ◌≤◌, Bool, true, false, cond, List, [], ◌∷◌, ◌++◌, length, refl, sym, ap, ◌∙◌, arith}
 use Rattle.std.specs.Prelude.{map, not, sum_by, count_by}
-use Rattle.std.specs.List.{filter}
-use Rattle.std.proofs.lemmas.List.Sums.{sum_by-cons, sum_by-append}
+use Rattle.std.specs.List.{filter, range_with_len}
+use Rattle.std.proofs.lemmas.List.Sums.{sum_by-cons, sum_by-append, sum_by_push}
 use Rattle.lists.specs.Members.{IsIn}
 use Rattle.lists.specs.Members.IsIn.{here, later}
+use Rattle.lists.proofs.Ranges.{range_next}
 
 -- functions that agree on the items have the same sum
 pub sum_by_agrees : {X : Type 0} (f g : X → ℕ) (xs : List X) → ((x : X) → IsIn x xs → f x ≡ g x) → sum_by f xs ≡ sum_by g xs
@@ -84,3 +85,12 @@ count-split {X} t s (x ∷ xs) = go (s x) (count-split t s xs)
         → count_by t (cond b (x ∷ filter s xs) (filter s xs)) + count_by t (cond (not b) (x ∷ filter (λ y. not (s y)) xs) (filter (λ y. not (s y)) xs)) ≡ count_by t (x ∷ xs)
     go true ih = rw (count-cons t x (filter s xs), count-cons t x xs) (omega arith)
     go false ih = rw (count-cons t x (filter (λ y. not (s y)) xs), count-cons t x xs) (omega arith)
+
+-- a sum over numbers: the next number adds its own
+pub sum_next : (f : ℕ → ℕ) (n : ℕ) → sum_by f (range_with_len 0 (n + 1)) ≡ sum_by f (range_with_len 0 n) + f n
+sum_next f n = rw (range_next n) (sum_by_push f (range_with_len 0 n) n)
+
+-- where all pass, the count is the length
+pub count_all : {X : Type 0} (xs : List X) → count_by (λ x. true) xs ≡ length xs
+count_all [] = refl
+count_all {X} (x ∷ xs) = count-cons (λ (y : X). true) x xs ∙ rw (count_all xs) (omega arith)

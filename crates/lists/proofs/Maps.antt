@@ -1,5 +1,5 @@
 -- Maps, and lists of lists put together.
-use Rattle.std.proofs.Common.{◌≡◌, Bool, true, false, cond, List, [], ◌∷◌, ◌++◌, refl, ap, sym, ◌∙◌}
+use Rattle.std.proofs.Common.{◌≡◌, Bool, true, false, cond, List, [], ◌∷◌, ◌++◌, refl, ap, ◌∙◌}
 use Rattle.std.specs.Prelude.{map}
 use Rattle.std.specs.List.{filter, flat_map}
 use Rattle.std.proofs.lemmas.List.Concat.{flat_map-append}
@@ -21,10 +21,10 @@ pub map_itself : {X : Type 0} (g : X → X) (xs : List X) → ((x : X) → IsIn 
 map_itself g [] k = refl
 map_itself g (x ∷ xs) k = let e = k x here in let h = map_itself g xs (λ y m. k y (later x m)) in λ i. e i ∷ h i
 
--- functions that agree everywhere give the same lists together
-pub flat_map-agree : {X Z : Type 0} (f g : X → List Z) → ((x : X) → f x ≡ g x) → (xs : List X) → flat_map f xs ≡ flat_map g xs
-flat_map-agree f g h [] = refl
-flat_map-agree f g h (x ∷ xs) = rw (h x, flat_map-agree f g h xs)
+-- functions that agree on the items give the same lists together
+pub flat_map-agree : {X Z : Type 0} (f g : X → List Z) (xs : List X) → ((x : X) → IsIn x xs → f x ≡ g x) → flat_map f xs ≡ flat_map g xs
+flat_map-agree f g [] e = refl
+flat_map-agree f g (x ∷ xs) e = rw (e x here, flat_map-agree f g xs (λ z m. e z (later x m))) refl
 
 -- lists of lists put together, twice
 pub flat_map-flat_map : {X Y Z : Type 0} (f : Y → List Z) (g : X → List Y) (xs : List X) → flat_map f (flat_map g xs) ≡ flat_map (λ x. flat_map f (g x)) xs
@@ -39,3 +39,8 @@ flat_map-tested {X} t f (x ∷ xs) = go (t x) (flat_map-tested t f xs)
     go : (b : Bool) → flat_map (λ z. cond (t z) (f z) []) xs ≡ flat_map f (filter t xs) → cond b (f x) [] ++ flat_map (λ z. cond (t z) (f z) []) xs ≡ flat_map f (cond b (x ∷ filter t xs) (filter t xs))
     go true e = ap (λ r. f x ++ r) e
     go false e = e
+
+-- images under a function that undoes another are the items
+pub map_back : {X Y : Type 0} (f : X → Y) (b : Y → X) (ys : List Y) → ((y : Y) → IsIn y ys → f (b y) ≡ y) → map f (map b ys) ≡ ys
+map_back f b [] e = refl
+map_back f b (y ∷ ys) e = let first = e y here in let rest = map_back f b ys (λ z i. e z (later y i)) in λ i. first i ∷ rest i

@@ -118,3 +118,8 @@ from_IsIn-flat_map {X} {Y} f (x ∷ xs) {y} h =
 pub IsIn-flat_map : {X Y : Type 0} (f : X → List Y) {x : X} {xs : List X} {y : Y} → IsIn x xs → IsIn y (f x) → IsIn y (flat_map f xs)
 IsIn-flat_map f (here {xs = xs}) m = IsIn-append_left (flat_map f xs) m
 IsIn-flat_map f (later z h) m = IsIn-append_right (f z) (IsIn-flat_map f h m)
+
+-- what holds of the image of each item holds of each image, by recursion
+pub each_image : {X Y : Type 0} (P : Y → Type 0) (f : X → Y) (xs : List X) → ((x : X) → IsIn x xs → P (f x)) → AllByRecursion P (map f xs)
+each_image P f [] h = tt
+each_image P f (x ∷ xs) h = (h x here, each_image P f xs (λ y m. h y (later x m)))

@@ -1,5 +1,5 @@
 -- How two numbers stand.
-use Rattle.std.proofs.Common.{◌≡◌, ◌<◌, ◌≤◌, ◌-◌, ℕ, zero, suc, Bool, true, false, refl, inl, inr, arith}
+use Rattle.std.proofs.Common.{◌≡◌, ◌+◌, ◌<◌, ◌≤◌, ◌-◌, ℕ, zero, suc, Bool, true, false, refl, sym, subst, inl, inr, ⊎_elim, arith}
 use Rattle.std.specs.Prelude.{◌⊎◌, nat_lt}
 use Rattle.std.proofs.lemmas.Bool.Decides.{nat_tests}
 
@@ -30,3 +30,7 @@ less_or_whole m n h = go (n - m) refl
 pub zero_or_more : (i : ℕ) → (i ≡ 0) ⊎ (0 < i)
 zero_or_more zero = inl refl
 zero_or_more (suc i) = inr (omega arith)
+
+-- what holds of each number below one, and of that one, holds of each below the next
+pub up_to_next : (P : ℕ → Type 0) (n : ℕ) → ((k : ℕ) → k < n → P k) → P n → (k : ℕ) → k < n + 1 → P k
+up_to_next P n before p k l = ⊎_elim {C = P k} (before k) (λ e. subst P (sym e) p) (less_or_whole k n (omega (arith, l)))

@@ -1,8 +1,9 @@
 -- Places in a list, first places, and lists side by side.
-use Rattle.std.proofs.Common.{◌≡◌, ◌+◌, ◌<◌, ◌≤◌, ℕ, zero, suc, Bool, true, false, cond, List, [], ◌∷◌, ◌++◌, length, take, get_or, refl, sym, ap, subst, ⊎_elim, arith}
+use Rattle.std.proofs.Common.{◌≡◌, ◌+◌, ◌<◌, ◌≤◌, ℕ, zero, suc, Bool, true, false, cond, List, [], ◌∷◌, ◌++◌, length, take, drop, get_or, refl, sym, ap, subst, ⊎_elim, arith}
 use Rattle.std.specs.Prelude.{◌||◌, not, map, slice_get, slice_index, slice_index_or, Some, None, find}
 use Rattle.std.specs.List.{list_any, position_or_len, AllZip}
 use Rattle.std.proofs.lemmas.Bool.{cases_lt}
+use Rattle.std.proofs.Math.Seq.{take-append_seam}
 use Rattle.lists.specs.Members.{IsIn}
 use Rattle.lists.specs.Members.IsIn.{here, later}
 
@@ -189,3 +190,19 @@ at_position {X} test (y ∷ xs) e = go (test y) refl e (λ f. at_position test x
         → (x : X) × (k : ℕ) × IsAt x k (y ∷ xs) × (cond (not b) (1 + position_or_len test xs) 0 ≡ k) × (test x ≡ true)
     go true f e ih = (y, zero, at_first, refl, f)
     go false f e ih = let r = ih e in let up : 1 + position_or_len test xs ≡ suc r.1 = omega (arith, r.3) in (r.0, suc r.1, at_next y r.2, up, r.4)
+
+-- a slice that was written through, read back
+pub written_back : {X : Type 0} (len : ℕ) (new old : List X) → len ≡ length old → length new ≡ length old → take len (new ++ drop (length new) old) ≡ new
+written_back len new old e f = let g : len ≡ length new = omega (arith, e, f) in rw g (take-append_seam new (drop (length new) old))
+
+-- a list beside its images
+pub zip-map : {X Y : Type 0} (P : X → Y → Type 0) (f : X → Y) (xs : List X) → ((x : X) → IsIn x xs → P x (f x)) → AllZip P xs (map f xs)
+zip-map P f [] h = tt
+zip-map P f (x ∷ xs) h = (h x here, zip-map P f xs (λ y m. h y (later x m)))
+
+-- each item of the second list has a partner in the first
+pub partner_of : {X Y : Type 0} (P : X → Y → Type 0) (xs : List X) {y : Y} {ys : List Y} → AllZip P xs ys → IsIn y ys → (x : X) × IsIn x xs × P x y
+partner_of P [] z here = absurd z
+partner_of P [] z (later _ m) = absurd z
+partner_of P (x ∷ xs) z here = (x, here, z.0)
+partner_of P (x ∷ xs) z (later _ m) = let k = partner_of P xs z.1 m in (k.0, later x k.1, k.2)

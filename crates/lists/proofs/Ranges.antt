@@ -1,5 +1,5 @@
 -- Numbers from a start on.
-use Rattle.std.proofs.Common.{◌≡◌, ℕ, zero, suc, ◌+◌, ◌-◌, ◌<◌, ◌≤◌, refl, arith}
+use Rattle.std.proofs.Common.{◌≡◌, ℕ, zero, suc, ◌+◌, ◌-◌, ◌<◌, ◌≤◌, List, [], ◌∷◌, ◌++◌, refl, ap, ◌∙◌, arith}
 use Rattle.std.specs.List.{range_with_len}
 use Rattle.lists.specs.Members.{IsIn, NoRepeats}
 use Rattle.lists.specs.Members.IsIn.{here, later}
@@ -24,3 +24,20 @@ in_range_with_len a (suc n) x h k = go (x - a) refl (λ p q. in_range_with_len (
     go : (d : ℕ) → x - a ≡ d → (a + 1 ≤ x → x < a + 1 + n → IsIn x (range_with_len (a + 1) n)) → IsIn x (range_with_len a (suc n))
     go zero e ih = let same : x ≡ a = omega arith in rw same here
     go (suc d) e ih = later a (ih (omega arith) (omega arith))
+
+-- one number more, at the end
+pub range_more : (a n : ℕ) → range_with_len a (suc n) ≡ range_with_len a n ++ (a + n) ∷ []
+range_more a zero = let e : a + 0 ≡ a = omega arith in rw e refl
+range_more a (suc n) = let e : a + suc n ≡ a + 1 + n = omega arith in rw e (ap (λ (xs : List ℕ). a ∷ xs) (range_more (a + 1) n))
+
+-- the same from 0 on
+pub range_next : (n : ℕ) → range_with_len 0 (n + 1) ≡ range_with_len 0 n ++ n ∷ []
+range_next n =
+    let up : n + 1 ≡ suc n = omega arith in
+    let at : 0 + n ≡ n = omega arith in
+    rw up (range_more 0 n ∙ rw at refl)
+
+-- a range in two
+pub range_split : (a m k : ℕ) → range_with_len a (m + k) ≡ range_with_len a m ++ range_with_len (a + m) k
+range_split a zero k = let e : 0 + k ≡ k = omega arith in let d : a + 0 ≡ a = omega arith in rw (e, d) refl
+range_split a (suc m) k = let e : suc m + k ≡ suc (m + k) = omega arith in let d : a + suc m ≡ a + 1 + m = omega arith in rw (e, d) (ap (λ xs. a ∷ xs) (range_split (a + 1) m k))

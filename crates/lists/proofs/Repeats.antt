@@ -5,7 +5,7 @@ use Rattle.std.specs.List.{filter, flat_map}
 use Rattle.lists.specs.Members.{IsIn, NoRepeats}
 use Rattle.lists.specs.Members.IsIn.{here, later}
 use Rattle.lists.specs.Members.NoRepeats.{no_element, one_more}
-use Rattle.lists.proofs.Members.{IsIn-map, from_IsIn-map, from_IsIn-filter, from_IsIn-flat_map, IsIn-append_cases}
+use Rattle.lists.proofs.Members.{IsIn-map, from_IsIn-map, from_IsIn-filter, from_IsIn-flat_map, IsIn-append_cases, IsIn-append_right}
 
 -- a filter makes no repeats
 pub NoRepeats-filter : {X : Type 0} (p : X → Bool) {xs : List X} → NoRepeats xs → NoRepeats (filter p xs)
@@ -44,3 +44,18 @@ distinct_by {X} {Y} {Z} f g (x ∷ xs) tells (one_more out n) =
     let y = from_IsIn-map f xs h in
     out (subst (λ z. IsIn z (map g xs)) (sym (tells x y.0 here (later x y.1) y.2)) (IsIn-map g y.1)))
     (distinct_by f g xs (λ a b i j. tells a b (later x i) (later x j)) n)
+
+-- where the images are distinct, the items are
+pub NoRepeats-from_map : {X Y : Type 0} (f : X → Y) (xs : List X) → NoRepeats (map f xs) → NoRepeats xs
+NoRepeats-from_map f [] r = no_element
+NoRepeats-from_map f (x ∷ xs) (one_more out rest) = one_more (λ m. out (IsIn-map f m)) (NoRepeats-from_map f xs rest)
+
+-- two lists without repeats together share nothing
+pub apart_append : {X : Type 0} {x : X} {xs ys : List X} → IsIn x xs → NoRepeats (xs ++ ys) → IsIn x ys → ⊥
+apart_append here (one_more out rest) n = out (IsIn-append_right _ n)
+apart_append (later y m) (one_more out rest) n = apart_append m rest n
+
+-- the second of two lists without repeats together has none
+pub rest_append : {X : Type 0} (xs : List X) {ys : List X} → NoRepeats (xs ++ ys) → NoRepeats ys
+rest_append [] r = r
+rest_append (x ∷ xs) (one_more out rest) = rest_append xs rest

@@ -1,5 +1,5 @@
 -- Tests of all items, and of some item.
-use Rattle.std.proofs.Common.{◌≡◌, ◌<◌, ◌+◌, ℕ, zero, suc, Bool, true, false, List, [], ◌∷◌, length, take, refl, sym, ap, ◌∙◌, arith}
+use Rattle.std.proofs.Common.{◌≡◌, ◌<◌, ◌+◌, ℕ, zero, suc, Bool, true, false, List, [], ◌∷◌, length, take, refl, sym, ◌∙◌, arith}
 use Rattle.std.specs.Prelude.{◌&&◌, ◌||◌, not, map, slice_index_or}
 use Rattle.std.specs.List.{list_all, list_any}
 use Rattle.std.proofs.lemmas.Bool.{and_parts, and_from}
@@ -59,6 +59,15 @@ no_pass test xs f = go (list_any test xs) refl
     go true e = let k = which_passes test xs e in absurd (f k.0 k.1 k.2)
     go false e = e
 
+-- where not all pass, here is one that fails
+pub some_fails : {X : Type 0} (test : X → Bool) (xs : List X) → list_all test xs ≡ false → (x : X) × IsIn x xs × (test x ≡ false)
+some_fails test [] e = absurd cc
+some_fails {X} test (x ∷ xs) e = go (test x) refl e (λ f. some_fails test xs f)
+  where
+    go : (b : Bool) → test x ≡ b → (b && list_all test xs) ≡ false → (list_all test xs ≡ false → (y : X) × IsIn y xs × (test y ≡ false)) → (y : X) × IsIn y (x ∷ xs) × (test y ≡ false)
+    go true f k ih = let m = ih k in (m.0, later x m.1, m.2)
+    go false f k ih = (x, here, f)
+
 -- one item fails, so not all pass
 pub one_fails : {X : Type 0} (test : X → Bool) (xs : List X) (i : ℕ) (d : X) → i < length xs → test (slice_index_or xs i d) ≡ false → list_all test xs ≡ false
 one_fails test [] i d h e = absurd (omega arith)
@@ -109,3 +118,8 @@ pub list_any-and : {X : Type 0} (b : Bool) (test : X → Bool) (xs : List X) →
 list_any-and true test xs = refl
 list_any-and false test [] = refl
 list_any-and false test (x ∷ xs) = list_any-and false test xs
+
+-- where each image passes, all images do
+pub all_pass-map : {X Y : Type 0} (t : Y → Bool) (f : X → Y) (xs : List X) → ((x : X) → IsIn x xs → t (f x) ≡ true) → list_all t (map f xs) ≡ true
+all_pass-map t f [] h = refl
+all_pass-map t f (x ∷ xs) h = and_from (t (f x)) (list_all t (map f xs)) (h x here) (all_pass-map t f xs (λ y m. h y (later x m)))

@@ -4,9 +4,7 @@ use Rattle.std.specs.Prelude.{◌&&◌, not, map, Option, Some, None, find}
 use Rattle.std.specs.List.{list_any, filter}
 use Rattle.std.specs.Option.{option_or}
 use Rattle.std.proofs.lemmas.List.Kept.{IsStrictlySortedBy-filter}
-use Rattle.patterns.specs.Parts.{IsIn}
-use Rattle.patterns.proofs.Booleans.{and_true, not_true}
-use Rattle.patterns.proofs.Lists.{IsIn-map, from_IsIn-map, from_IsIn-filter}
+use Rattle.std.proofs.lemmas.Bool.{and_parts as and_true, not-true as not_true}
 use Rattle.gridded.specs.declared.Axis.TheVariants as axis
 use Rattle.gridded.specs.declared.Cell.{Cell}
 use Rattle.gridded.specs.Grids.{Point, holds, cells_in}
@@ -25,6 +23,8 @@ use Rattle.normal_form.proofs.Firsts.{by_kind}
 use Rattle.normal_form.proofs.Tracing.{first_applies, cleanings, columns, rows, clean_in_grid}
 use Rattle.normal_form.proofs.Tilings.{steps_keep_tilings}
 use Rattle.normal_form.proofs.LinesAlone.{only_lines_still}
+use Rattle.lists.specs.Members.{IsIn}
+use Rattle.lists.proofs.Members.{IsIn-map, from_IsIn-map, from_IsIn-filter}
 
 -- ---- obstructions
 -- what is left of obstructions that hold no other

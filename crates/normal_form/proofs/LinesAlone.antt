@@ -10,10 +10,11 @@ use Rattle.std.proofs.lemmas.List.{length-map}
 use Rattle.std.proofs.lemmas.List.Folds.{list_all-map}
 use Rattle.std.proofs.lemmas.List.Kept.{IsStrictlySortedBy-filter}
 use Rattle.std.proofs.lemmas.List.Sums.{sum_by-cons}
-use Rattle.patterns.specs.Parts.{IsIn}
+use Rattle.std.proofs.lemmas.Bool.{and_parts as and_true, and_from as both_true, or_cases as or_true, not-true as not_true, not_from_false as not_false}
+use Rattle.std.proofs.Math.Bool.{or-true as or_all, and-true as and_end}
 use Rattle.lists.specs.Members.IsIn.{here, later}
-use Rattle.patterns.proofs.Booleans.{and_true, both_true, or_true, or_all, and_end, not_true, not_false}
-use Rattle.patterns.proofs.Lists.{from_IsIn-map, IsIn-filter, from_IsIn-filter}
+use Rattle.lists.specs.Members.{IsIn, is_nil}
+use Rattle.lists.proofs.Members.{from_IsIn-map, IsIn-filter, from_IsIn-filter}
 use Rattle.gridded.specs.declared.Axis.{Axis}
 use Rattle.gridded.specs.declared.Axis.TheVariants as axis
 use Rattle.gridded.specs.declared.Cell.{Cell}
@@ -27,7 +28,7 @@ use Rattle.tiling_core.specs.Same.{tiles_eq, tiles_eq_decides}
 use Rattle.gridded.specs.Small.{point_at, rising, falling}
 use Rattle.tiling_core.specs.Patterns.{is_among, forbids, active_cells, holds_another, requires_list}
 use Rattle.steps.specs.declared.Step.TheVariants.{Min, Clean, Lists, Column, Row, Void}
-use Rattle.steps.specs.Steps.{step_applies, is_nil, is_hopeless, is_isolated, is_other_list, can_be_cleaned, implies_list, is_implied, is_useless, is_untidy, are_untidy, sides, misses, is_blank, close_cell, close_up, without_line}
+use Rattle.steps.specs.Steps.{step_applies, is_hopeless, is_isolated, is_other_list, can_be_cleaned, implies_list, is_implied, is_useless, is_untidy, are_untidy, sides, misses, is_blank, close_cell, close_up, without_line}
 use Rattle.tiling_core.specs.Roots.{void_tiling}
 use Rattle.steps.proofs.ListTests.{each_passes, some_passes, which_passes, none_passes, list_all-agree, list_any-agree, list_any-map, at_each}
 use Rattle.steps.proofs.Moved.{holds-moved}

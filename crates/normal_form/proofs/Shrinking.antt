@@ -7,8 +7,7 @@ use Rattle.std.specs.Cmp.Lexicographic.{slice_cmp, lists_total}
 use Rattle.std.proofs.lemmas.Bool.Decides.{nat_tests, Decides-eqb}
 use Rattle.std.proofs.lemmas.List.{length-map}
 use Rattle.std.proofs.lemmas.List.Sums.{sum_by-cons}
-use Rattle.patterns.specs.Parts.{IsIn}
-use Rattle.patterns.proofs.Booleans.{and_true, or_true, not_true}
+use Rattle.std.proofs.lemmas.Bool.{and_parts as and_true, or_cases as or_true, not-true as not_true}
 use Rattle.sequences.specs.Ascending.{in_order}
 use Rattle.sequences.proofs.InOrder.{in_order-is}
 use Rattle.gridded.specs.declared.Axis.{Axis}
@@ -26,12 +25,13 @@ use Rattle.tiling_core.proofs.Kept.{lists_exact}
 use Rattle.steps.specs.declared.Step.{Step}
 use Rattle.steps.specs.declared.Step.TheVariants.{Min, Clean, Lists, Column, Row, Void}
 use Rattle.gridded.specs.Places.{has_one_point_in}
-use Rattle.steps.specs.Steps.{step_applies, step_result, is_nil, is_hopeless, is_isolated, can_be_cleaned, is_other_list, cleaned, cleaned_list, clean, useful, is_implied, tidied, tidy_lists, is_blank, close_up, close_cell, misses, without_line}
+use Rattle.steps.specs.Steps.{step_applies, step_result, is_hopeless, is_isolated, can_be_cleaned, is_other_list, cleaned, cleaned_list, clean, useful, is_implied, tidied, tidy_lists, is_blank, close_up, close_cell, misses, without_line}
 use Rattle.tiling_core.specs.Roots.{void_tiling}
 use Rattle.steps.proofs.ListTests.{which_passes, at_each}
 use Rattle.normal_form.specs.Measure.{size, size_of_pattern, size_of_patterns, size_of_list, StepsShrink}
 use Rattle.sequences.proofs.Sums.{in_order_sum}
 use Rattle.normal_form.proofs.Sums.{filter_sum, filter_drops, StaysOrFalls, filter_falls, map_sum, map_drops, map_falls, falls_then, in_sum, map_itself}
+use Rattle.lists.specs.Members.{IsIn, is_nil}
 
 -- what is put in order is no larger
 tiling_of_size : (w h : ℕ) (obstructions : List (List Point)) (lists : List (List (List Point)))

@@ -6,8 +6,8 @@ use Rattle.std.proofs.lemmas.List.Sums.{sum_by-cons}
 use Rattle.std.specs.declared.cmp.Ordering.{Ordering}
 use Rattle.std.specs.declared.cmp.Ordering.TheVariants.{Less, Equal, Greater}
 use Rattle.std.specs.Ordering.{match_ordering}
-use Rattle.patterns.specs.Parts.{IsIn}
 use Rattle.lists.specs.Members.IsIn.{here, later}
+use Rattle.lists.specs.Members.{IsIn}
 use Rattle.sequences.specs.Ascending.{insert_new, in_order}
 
 -- ---- what is filtered

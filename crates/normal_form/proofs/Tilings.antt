@@ -7,9 +7,9 @@ use Rattle.std.specs.declared.cmp.Ordering.{Ordering}
 use Rattle.std.proofs.lemmas.List.{length-map}
 use Rattle.std.proofs.lemmas.List.Sums.{sum_by-cons, length-filter, count_by-le-length}
 use Rattle.std.proofs.lemmas.List.Elements.{All-map, All-weaker, All-filter}
-use Rattle.patterns.specs.Parts.{IsIn}
 use Rattle.lists.specs.Members.IsIn.{here, later}
-use Rattle.patterns.proofs.Lists.{from_IsIn-map, from_IsIn-filter}
+use Rattle.lists.specs.Members.{IsIn}
+use Rattle.lists.proofs.Members.{from_IsIn-map, from_IsIn-filter}
 use Rattle.sequences.specs.Ascending.{in_order}
 use Rattle.gridded.specs.declared.Axis.{Axis}
 use Rattle.gridded.specs.declared.Axis.TheVariants as axis

@@ -5,11 +5,11 @@ use Rattle.std.specs.List.{filter, range_with_len}
 use Rattle.std.specs.List.Sorted.{IsStrictlySortedBy}
 use Rattle.std.specs.Cmp.Lexicographic.{slice_cmp}
 use Rattle.std.proofs.lemmas.Bool.Decides.{nat_tests}
-use Rattle.patterns.specs.Parts.{IsIn}
+use Rattle.std.proofs.lemmas.Bool.{and_parts as and_true}
 use Rattle.lists.specs.Members.IsIn.{here, later}
-use Rattle.patterns.proofs.Booleans.{and_true}
-use Rattle.patterns.proofs.Lists.{IsIn-map, from_IsIn-map, IsIn-append_left, IsIn-append_right}
-use Rattle.patterns.proofs.NoRepeat.{in_range_with_len}
+use Rattle.lists.specs.Members.{IsIn}
+use Rattle.lists.proofs.Members.{IsIn-map, from_IsIn-map, IsIn-append_left, IsIn-append_right}
+use Rattle.lists.proofs.Ranges.{in_range_with_len}
 use Rattle.sequences.specs.Ascending.{in_order}
 use Rattle.gridded.specs.declared.Axis.{Axis}
 use Rattle.gridded.specs.declared.Axis.TheVariants as axis

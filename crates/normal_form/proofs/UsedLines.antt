@@ -5,11 +5,12 @@ use Rattle.std.specs.List.{list_all, list_any}
 use Rattle.std.proofs.lemmas.Bool.Decides.{nat_tests, Decides-eqb}
 use Rattle.std.proofs.lemmas.List.{take_all}
 use Rattle.std.proofs.lemmas.List.Folds.{list_any_more}
+use Rattle.std.proofs.lemmas.Bool.{and_parts as and_true, or_cases as or_true}
+use Rattle.std.proofs.Math.Bool.{or-false as or_end}
 use Rattle.lists.specs.Members.{IsIn}
 use Rattle.lists.specs.Members.IsIn.{here, later}
 use Rattle.lists.proofs.Members.{from_IsIn-filter, all_in, of_all}
 use Rattle.lists.proofs.Tests.{same_test, each_passes, some_passes, which_passes, no_pass, none-not_any, list_all-agree}
-use Rattle.patterns.proofs.Booleans.{and_true, or_true, or_end}
 use Rattle.gridded.specs.declared.axis.Axis.{Axis}
 use Rattle.gridded.specs.declared.axis.Axis.TheVariants.{Column, Row}
 use Rattle.gridded.specs.declared.cell.Cell.{Cell}

@@ -1,8 +1,8 @@
 -- Where all classes are filed for some packs, a specification by rules of complete filings is one of the ledger's rules.
 use Rattle.std.proofs.Common.{◌≡◌, true, List, [], ◌∷◌, refl, sym, ap, subst, ◌∙◌, ◌<◌, ℕ}
 use Rattle.std.specs.Prelude.{map, zip, Some}
-use Rattle.patterns.specs.Parts.{IsIn}
 use Rattle.lists.specs.Members.IsIn.{here, later}
+use Rattle.lists.specs.Members.{IsIn}
 use Rattle.css_domain.specs.Ledgers.{Books, classes, is_all_done}
 use Rattle.css_domain.specs.Entries.{Entry, ValidSpec}
 use Rattle.css_domain.specs.Reasons.{RootStands, Alone}

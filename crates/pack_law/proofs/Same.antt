@@ -1,9 +1,9 @@
 -- The complete filing of a tiling is determined.
 use Rattle.std.proofs.Common.{◌≡◌, List, [], ◌∷◌, refl, sym, ap, subst, ◌∙◌}
 use Rattle.std.specs.Prelude.{map, zip, Some}
-use Rattle.patterns.specs.Parts.{IsIn}
 use Rattle.lists.specs.Members.IsIn.{here, later}
-use Rattle.patterns.proofs.Lists.{IsIn-map, from_IsIn-map}
+use Rattle.lists.specs.Members.{IsIn}
+use Rattle.lists.proofs.Members.{IsIn-map, from_IsIn-map}
 use Rattle.tiling_core.specs.Tiles.{Tiles}
 use Rattle.tiling_core.proofs.Minimal.{each_of}
 use Rattle.steps.specs.declared.step.Step.{Step}

@@ -1,6 +1,5 @@
 -- Rules that some packs try, and ledgers that are filed for them.
 use Rattle.std.specs.Prelude.{◌≡◌, ◌<◌, ℕ, true, List, map}
-use Rattle.patterns.specs.Parts.{IsIn}
 use Rattle.css_domain.specs.Ledgers.{Books, classes, is_all_done}
 use Rattle.css_domain.specs.LedgerFacts.{IsLedger}
 use Rattle.css_domain.specs.Reasons.{Alone, AreFilingsComplete, EndsFor}
@@ -15,6 +14,7 @@ use Rattle.rule_kinds.specs.Children.{raw_children}
 use Rattle.rule_kinds.specs.Choices.{Packs, kinds_of}
 use Rattle.tile_rules.specs.Complete.{IsComplete, rulebook_of}
 use Rattle.tile_rules.specs.Meaning.{tile_meaning}
+use Rattle.lists.specs.Members.{IsIn}
 
 -- the complete filing of a tiling is determined
 abbrev pub CompleteIsDetermined : Type 0

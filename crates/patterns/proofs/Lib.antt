@@ -1,11 +1,8 @@
-pub mod Booleans
-pub mod Lists
 pub mod Occurrences
 pub mod NoRepeat
-pub mod PartLaws
 pub mod Searches
 pub mod Compose
-pub mod Products
 pub mod Standard
 pub mod Places
 pub mod Permutations
+mod Rows

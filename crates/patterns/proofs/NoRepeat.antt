@@ -1,18 +1,14 @@
 -- The permutations of a length are listed, each once.
-use Rattle.std.proofs.Common.{◌≡◌, ℕ, zero, suc, ◌+◌, ◌-◌, ◌<◌, ◌≤◌, true, List, [], ◌∷◌, length, refl, sym, ap, ◌∙◌, subst, ⊎_elim, arith}
-use Rattle.std.specs.Prelude.{map}
-use Rattle.std.specs.List.{flat_map, range_with_len, AllByRecursion}
-use Rattle.patterns.specs.Parts.{IsIn, NoRepeats}
-use Rattle.lists.specs.Members.IsIn.{here, later}
-use Rattle.lists.specs.Members.NoRepeats.{no_element, one_more}
+use Rattle.std.proofs.Common.{◌≡◌, ℕ, ◌-◌, ◌<◌, true, List, [], ◌∷◌, length, subst, arith}
+use Rattle.std.specs.List.{range_with_len, AllByRecursion}
+use Rattle.lists.proofs.Ranges.{IsIn-range_with_len, NoRepeats-range_with_len, in_range_with_len}
+use Rattle.lists.proofs.Words.{NoRepeats-words, IsIn-words, from_IsIn-words}
+use Rattle.lists.specs.Members.{IsIn, NoRepeats}
+use Rattle.lists.specs.Words.{words}
+use Rattle.lists.proofs.Members.{IsIn-filter, from_IsIn-filter}
+use Rattle.lists.proofs.Repeats.{NoRepeats-filter}
 use Rattle.patterns.specs.Laws.{IsPermutationOf}
-use Rattle.patterns.specs.Words.{words, all_perms, has_no_repeats}
-use Rattle.patterns.proofs.Lists.{from_IsIn-map, IsIn-map, IsIn-filter, from_IsIn-filter, IsIn-append_cases, IsIn-append_left, IsIn-append_right, NoRepeats-append, NoRepeats-map, NoRepeats-filter}
--- ranges, words and lists of lists, passed on
-pub use Rattle.lists.proofs.Members.{from_IsIn-flat_map, IsIn-flat_map}
-pub use Rattle.lists.proofs.Repeats.{NoRepeats-flat_map}
-pub use Rattle.lists.proofs.Ranges.{IsIn-range_with_len, NoRepeats-range_with_len, in_range_with_len}
-pub use Rattle.lists.proofs.Words.{NoRepeats-words, IsIn-words, from_IsIn-words}
+use Rattle.patterns.specs.Words.{all_perms, has_no_repeats}
 
 pub NoRepeats-all_perms : (n : ℕ) → NoRepeats (all_perms n)
 NoRepeats-all_perms n = NoRepeats-filter has_no_repeats (NoRepeats-words (NoRepeats-range_with_len 0 n) n)

@@ -1,37 +1,16 @@
 -- The test of containment decides containment.
-use Rattle.std.proofs.Common.{◌≡◌, ℕ, zero, suc, ◌<◌, Bool, true, false, List, [], ◌∷◌, length, refl, ap, subst, ⊎_elim, arith, get_or}
+use Rattle.std.proofs.Common.{◌≡◌, ℕ, zero, suc, ◌<◌, Bool, true, false, List, [], ◌∷◌, length, refl, ap, subst, arith, get_or}
 use Rattle.std.specs.Prelude.{◌↔◌, ◌&&◌, ◌||◌, nat_lt, map, Decides}
 use Rattle.std.specs.Bool.{beq}
 use Rattle.std.specs.List.{list_any, AllZip}
 use Rattle.std.proofs.lemmas.Bool.Decides.{nat_tests}
 use Rattle.std.proofs.lemmas.List.{length-map}
-use Rattle.patterns.proofs.Booleans.{and_true, both_true}
-use Rattle.patterns.specs.Parts.{IsIn, IsPart, parts}
+use Rattle.std.proofs.lemmas.Bool.{and_parts, and_from}
 use Rattle.lists.specs.Members.IsIn.{here, later}
-use Rattle.lists.specs.Parts.IsPart.{none, kept, left_out}
+use Rattle.lists.proofs.Parts.{IsIn-parts, from_IsIn-parts}
+use Rattle.lists.specs.Members.{IsIn}
+use Rattle.lists.specs.Parts.{parts}
 use Rattle.patterns.specs.Occurs.{IsSameOrder, Occurs, stand_alike, stands_as, is_match, occurs}
-use Rattle.patterns.proofs.PartLaws.{IsPart-nothing}
-use Rattle.patterns.proofs.Lists.{from_IsIn-map, IsIn-map, IsIn-append_cases, IsIn-append_left, IsIn-append_right}
-
--- ---- parts
-pub IsIn-parts : {X : Type 0} {part whole : List X} → IsPart part whole → IsIn part (parts (length part) whole)
-IsIn-parts none = here
-IsIn-parts (kept {part} {whole} x h) = IsIn-append_left (parts (suc (length part)) whole) (IsIn-map (λ p. x ∷ p) (IsIn-parts h))
-IsIn-parts (left_out {part = []} x h) = here
-IsIn-parts (left_out {part = y ∷ part} {whole} x h) = IsIn-append_right (map (λ p. x ∷ p) (parts (length part) whole)) (IsIn-parts h)
-
-pub from_IsIn-parts : {X : Type 0} (n : ℕ) (whole : List X) {part : List X} → IsIn part (parts n whole) → IsPart part whole × (length part ≡ n)
-from_IsIn-parts zero whole here = (IsPart-nothing whole, refl)
-from_IsIn-parts zero whole (later _ h) = elim h [ ]
-from_IsIn-parts (suc n) [] h = elim h [ ]
-from_IsIn-parts {X} (suc n) (x ∷ whole) {part} h =
-    ⊎_elim (first (λ p m. from_IsIn-parts n whole {part = p} m)) (λ m. let k = from_IsIn-parts (suc n) whole m in (left_out x k.0, k.1)) (IsIn-append_cases (map (λ p. x ∷ p) (parts n whole)) (parts (suc n) whole) h)
-  where
-    first : ((p : List X) → IsIn p (parts n whole) → IsPart p whole × (length p ≡ n)) → IsIn part (map (λ p. x ∷ p) (parts n whole)) → IsPart part (x ∷ whole) × (length part ≡ suc n)
-    first ih m =
-        let w = from_IsIn-map (λ p. x ∷ p) (parts n whole) m in
-        let k = ih w.0 w.1 in
-        rw w.2 (kept x k.0, ap suc k.1)
 
 -- ---- tests
 -- x stands to y as a does to b
@@ -46,7 +25,7 @@ beq_true false true e = cc
 
 pub alike_tells : (x a y b : ℕ) → stand_alike x a y b ≡ true → Alike x a y b
 alike_tells x a y b e =
-    let k = and_true (beq (nat_lt x y) (nat_lt a b)) (beq (nat_lt y x) (nat_lt b a)) e in
+    let k = and_parts (beq (nat_lt x y) (nat_lt a b)) (beq (nat_lt y x) (nat_lt b a)) e in
     let l : nat_lt x y ≡ nat_lt a b = beq_true (nat_lt x y) (nat_lt a b) k.0 in
     let r : nat_lt y x ≡ nat_lt b a = beq_true (nat_lt y x) (nat_lt b a) k.1 in
     (((λ h. grind (arith, nat_tests)), (λ h. grind (arith, nat_tests))), ((λ h. grind (arith, nat_tests)), (λ h. grind (arith, nat_tests))))
@@ -70,7 +49,7 @@ module _ {X : Type 0} (letter : X → ℕ) (same : X → X → Bool) where
   stands_as_tells x a (y ∷ ys) [] e = absurd cc
   stands_as_tells x a [] (b ∷ bs) e = absurd cc
   stands_as_tells x a (y ∷ ys) (b ∷ bs) e =
-      let k = and_true (stand_alike (letter x) (letter a) (letter y) (letter b)) (stands_as letter same x a ys bs) e in
+      let k = and_parts (stand_alike (letter x) (letter a) (letter y) (letter b)) (stands_as letter same x a ys bs) e in
       let ih = stands_as_tells x a ys bs k.1 in
       (ap suc ih.0, at (alike_tells (letter x) (letter a) (letter y) (letter b) k.0) ih.1)
     where
@@ -84,7 +63,7 @@ module _ {X : Type 0} (letter : X → ℕ) (same : X → X → Bool) where
   stands_as_from x a [] (b ∷ bs) h = let e : 0 ≡ suc (length bs) = h.0 in absurd (omega arith)
   stands_as_from x a (y ∷ ys) (b ∷ bs) h =
       let e : suc (length ys) ≡ suc (length bs) = h.0 in
-      both_true _ _ (alike_from (letter x) (letter a) (letter y) (letter b) (h.1 zero (omega arith))) (stands_as_from x a ys bs (omega arith, λ j l. h.1 (suc j) (omega arith)))
+      and_from _ _ (alike_from (letter x) (letter a) (letter y) (letter b) (h.1 zero (omega arith))) (stands_as_from x a ys bs (omega arith, λ j l. h.1 (suc j) (omega arith)))
 
   -- what a match is
   pub record Matches (xs as' : List X) : Type 0 where
@@ -96,8 +75,8 @@ module _ {X : Type 0} (letter : X → ℕ) (same : X → X → Bool) where
   match_tells (x ∷ xs) [] e = absurd cc
   match_tells [] (a ∷ as') e = absurd cc
   match_tells (x ∷ xs) (a ∷ as') e =
-      let k = and_true (same x a) (stands_as letter same x a xs as' && is_match letter same xs as') e in
-      let l = and_true (stands_as letter same x a xs as') (is_match letter same xs as') k.1 in
+      let k = and_parts (same x a) (stands_as letter same x a xs as' && is_match letter same xs as') e in
+      let l = and_parts (stands_as letter same x a xs as') (is_match letter same xs as') k.1 in
       let ih = match_tells xs as' l.1 in
       record { order = record { as_many = ap suc ih.order.as_many; alike = at (stands_as_tells x a xs as' l.0).1 ih.order.alike }; fit = (k.0, ih.fit) }
     where
@@ -116,7 +95,7 @@ module _ {X : Type 0} (letter : X → ℕ) (same : X → X → Bool) where
       let o = h.order.as_many in
       let lengths : length xs ≡ length as' = omega (arith, o, length-map xs letter, length-map as' letter) in
       let few = length-map as' letter in
-      both_true _ _ h.fit.0 (both_true _ _
+      and_from _ _ h.fit.0 (and_from _ _
       (stands_as_from x a xs as' (lengths, λ j l. (h.order.alike zero (suc j) (omega arith) (omega arith), h.order.alike (suc j) zero (omega arith) (omega arith))))
       (match_from xs as' (record { order = record { as_many = omega arith; alike = λ i j l m. h.order.alike (suc i) (suc j) (omega arith) (omega arith) }; fit = h.fit.1 })))
 

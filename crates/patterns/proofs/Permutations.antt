@@ -7,22 +7,20 @@ use Rattle.std.proofs.lemmas.List.{same_lists}
 use Rattle.std.proofs.lemmas.List.Sums.{sum_by-cons, length-filter}
 use Rattle.std.proofs.lemmas.List.Filters.{length-filter_both}
 use Rattle.std.proofs.lemmas.Bool.Decides.{nat_tests, Decides-eqb}
-use Rattle.patterns.proofs.Booleans.{and_true, not_true, same_test}
-use Rattle.patterns.specs.Parts.{IsIn, NoRepeats}
+use Rattle.std.proofs.lemmas.Bool.{and_parts, not-true}
 use Rattle.lists.specs.Members.IsIn.{here, later}
 use Rattle.lists.specs.Members.NoRepeats.{no_element, one_more}
+use Rattle.lists.proofs.Tests.{same_test}
+use Rattle.lists.specs.Members.{IsIn, NoRepeats}
+use Rattle.lists.proofs.Members.{from_IsIn-filter, of_each}
+use Rattle.lists.proofs.Repeats.{NoRepeats-filter}
+use Rattle.lists.proofs.Injections.{length-le_from_injection}
+use Rattle.lists.proofs.Ranges.{in_range_with_len}
 use Rattle.patterns.specs.Words.{has_no_repeats}
 use Rattle.patterns.specs.Laws.{IsPermutationOf}
 use Rattle.patterns.specs.Ranks.{rank}
 use Rattle.patterns.specs.Occurs.{IsSameOrder}
-use Rattle.patterns.proofs.Lists.{from_IsIn-filter, NoRepeats-filter, length-le_from_injection}
-use Rattle.patterns.proofs.NoRepeat.{in_range_with_len}
 use Rattle.patterns.proofs.Standard.{in_at}
-
--- what holds of each item by recursion
-pub in_all : {X : Type 0} (P : X → Type 0) {x : X} {xs : List X} → IsIn x xs → AllByRecursion P xs → P x
-in_all P here h = h.0
-in_all P (later y m) h = in_all P m h.1
 
 pub any_of : (x : ℕ) {xs : List ℕ} → IsIn x xs → list_any (λ y. x == y) xs ≡ true
 any_of x (here {xs = xs}) = let e : (x == x) ≡ true = (Decides-eqb x x).1 refl in rw e refl
@@ -35,8 +33,8 @@ any_of x (later {xs = xs} y m) = go (x == y) (any_of x m)
 pub distinct-NoRepeats : (xs : List ℕ) → has_no_repeats xs ≡ true → NoRepeats xs
 distinct-NoRepeats [] h = no_element
 distinct-NoRepeats (x ∷ xs) h =
-    let k = and_true (not (list_any (λ y. x == y) xs)) (has_no_repeats xs) h in
-    one_more (λ m. let a = any_of x m in let n = not_true _ k.0 in absurd cc) (distinct-NoRepeats xs k.1)
+    let k = and_parts (not (list_any (λ y. x == y) xs)) (has_no_repeats xs) h in
+    one_more (λ m. let a = any_of x m in let n = not-true _ k.0 in absurd cc) (distinct-NoRepeats xs k.1)
 
 at_most : (xs : List ℕ) (t : ℕ → Bool) (a n : ℕ) → NoRepeats xs → ((x : ℕ) → IsIn x xs → t x ≡ true → (a ≤ x) × (x < a + n)) → length (filter t xs) ≤ n
 at_most xs t a n r h =
@@ -49,7 +47,7 @@ pub rank-letters : (xs : List ℕ) → has_no_repeats xs ≡ true → AllByRecur
 rank-letters xs d b l h =
     let r = distinct-NoRepeats xs d in
     let lows : length (filter (λ x. nat_lt x l) xs) ≤ l = at_most xs (λ x. nat_lt x l) 0 l r (λ x m e. (omega arith, is_lt x l e)) in
-    let highs : length (filter (λ x. not (nat_lt x l)) xs) ≤ length xs - l = at_most xs (λ x. not (nat_lt x l)) l (length xs - l) r (λ x m e. let small = in_all (λ y. y < length xs) m b in (is_ge x l e, omega (arith, small))) in
+    let highs : length (filter (λ x. not (nat_lt x l)) xs) ≤ length xs - l = at_most xs (λ x. not (nat_lt x l)) l (length xs - l) r (λ x m e. let small = of_each (λ y. y < length xs) b m in (is_ge x l e, omega (arith, small))) in
     let both : length (filter (λ x. nat_lt x l) xs) + length (filter (λ x. not (nat_lt x l)) xs) ≡ length xs = length-filter_both (λ (x : ℕ). nat_lt x l) (λ x. not (nat_lt x l)) (λ x. refl) xs in
     sym (length-filter (λ (x : ℕ). nat_lt x l) xs) ∙ omega (arith, lows, highs, both)
   where
@@ -75,7 +73,7 @@ same_permutations n xs ys p q h = same_lists xs ys h.as_many (λ k d l. at k d l
     below zs r = subst (λ m. AllByRecursion (λ z. z < m) zs) (sym r.as_long) r.below
 
     letter : (zs : List ℕ) → IsPermutationOf n zs → (k : ℕ) → k < length zs → rank zs (get_or zs k 0) ≡ get_or zs k 0
-    letter zs r k l = rank-letters zs r.distinct (below zs r) (get_or zs k 0) (let b : get_or zs k 0 < length zs = in_all (λ z. z < length zs) (in_at zs k l) (below zs r) in omega arith)
+    letter zs r k l = rank-letters zs r.distinct (below zs r) (get_or zs k 0) (let b : get_or zs k 0 < length zs = of_each (λ z. z < length zs) (below zs r) (in_at zs k l) in omega arith)
 
     test : (a b c d : ℕ) → (a < b) ↔ (c < d) → nat_lt a b ≡ nat_lt c d
     test a b c d e = same_test (nat_lt a b) (nat_lt c d) (λ t. grind (arith, nat_tests)) (λ t. grind (arith, nat_tests))

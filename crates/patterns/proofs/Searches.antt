@@ -1,35 +1,21 @@
 -- The search finds a pattern exactly where it occurs.
 use Rattle.std.proofs.Common.{◌≡◌, ℕ, suc, Bool, true, false, List, [], ◌∷◌, ◌++◌, length, refl, sym, ap, ◌∙◌, arith, length-append}
-use Rattle.std.specs.Prelude.{◌&&◌, ◌||◌, map, nat_lt}
+use Rattle.std.specs.Prelude.{◌&&◌, map, nat_lt}
 use Rattle.std.specs.Bool.{beq}
 use Rattle.std.specs.List.{list_any}
 use Rattle.std.proofs.lemmas.List.Folds.{list_any-append}
-use Rattle.patterns.proofs.Booleans.{and_end, and_none, and_comm}
-use Rattle.std.proofs.Math.Bool.{and_assoc}
-use Rattle.patterns.specs.Parts.{parts}
+use Rattle.std.proofs.Math.Bool.{and_assoc, and-true, and-false, and_comm}
 use Rattle.patterns.specs.Occurs.{stands_as, stand_alike, is_match, occurs}
 use Rattle.patterns.specs.Search.{is_found}
-
--- a fixed test outside
-list_any-and : {X : Type 0} (b : Bool) (test : X → Bool) (xs : List X) → list_any (λ x. b && test x) xs ≡ (b && list_any test xs)
-list_any-and true test xs = refl
-list_any-and false test [] = refl
-list_any-and false test (x ∷ xs) = list_any-and false test xs
-
-list_any-map : {X Y : Type 0} (f : X → Y) (test : Y → Bool) (xs : List X) → list_any test (map f xs) ≡ list_any (λ x. test (f x)) xs
-list_any-map f test [] = refl
-list_any-map f test (x ∷ xs) = ap (λ b. test (f x) || b) (list_any-map f test xs)
-
-list_any-agree : {X : Type 0} (p q : X → Bool) → ((x : X) → p x ≡ q x) → (xs : List X) → list_any p xs ≡ list_any q xs
-list_any-agree p q h [] = refl
-list_any-agree p q h (x ∷ xs) = rw (h x, list_any-agree p q h xs)
+use Rattle.lists.proofs.Tests.{list_any-and, list_any-map, list_any-agree}
+use Rattle.lists.specs.Parts.{parts}
 
 pub stand_alike-comm : (x a y b : ℕ) → stand_alike x a y b ≡ stand_alike y b x a
 stand_alike-comm x a y b = and_comm (beq (nat_lt x y) (nat_lt a b)) (beq (nat_lt y x) (nat_lt b a))
 
 module _ {X : Type 0} (letter : X → ℕ) (same : X → X → Bool) where
   pub stands_as-push : (x a : X) (xs as' : List X) (y b : X) → length xs ≡ length as' → stands_as letter same x a (xs ++ y ∷ []) (as' ++ b ∷ []) ≡ (stands_as letter same x a xs as' && stand_alike (letter x) (letter a) (letter y) (letter b))
-  stands_as-push x a [] [] y b e = and_end (stand_alike (letter x) (letter a) (letter y) (letter b))
+  stands_as-push x a [] [] y b e = and-true (stand_alike (letter x) (letter a) (letter y) (letter b))
   stands_as-push x a (z ∷ xs) [] y b e = absurd (omega arith)
   stands_as-push x a [] (c ∷ as') y b e = absurd (omega arith)
   stands_as-push x a (z ∷ xs) (c ∷ as') y b e =
@@ -65,9 +51,9 @@ module _ {X : Type 0} (letter : X → ℕ) (same : X → X → Bool) where
       let b : Bool = same x y && stands_as letter same x y xs ys in
       let G : List X → Bool = λ s. all_stand (xs ++ x ∷ []) (ys ++ y ∷ []) s p && is_match letter same s p in
       let first : list_any F (map (λ s. x ∷ s) (parts (length p) w)) ≡ (b && is_found letter same (xs ++ x ∷ []) (ys ++ y ∷ []) w p) =
-      list_any-map (λ s. x ∷ s) F (parts (length p) w)
-      ∙ list_any-agree (λ s. F (x ∷ s)) (λ s. b && G s) (λ s. sym (ap (λ t. b && (t && is_match letter same s p)) (all_stand-push xs ys x y s p e)
-      ∙ shuffled (same x y) (stands_as letter same x y xs ys) (all_stand xs ys s p) (stands_as letter same x y s p) (is_match letter same s p))) (parts (length p) w)
+      list_any-map F (λ s. x ∷ s) (parts (length p) w)
+      ∙ list_any-agree (λ s. F (x ∷ s)) (λ s. b && G s) (parts (length p) w) (λ s _. sym (ap (λ t. b && (t && is_match letter same s p)) (all_stand-push xs ys x y s p e)
+      ∙ shuffled (same x y) (stands_as letter same x y xs ys) (all_stand xs ys s p) (stands_as letter same x y s p) (is_match letter same s p)))
       ∙ list_any-and b G (parts (length p) w)
       ∙ ap (λ t. b && t) (sym (found_is (xs ++ x ∷ []) (ys ++ y ∷ []) w p longer)) in
       sym (list_any-append F (map (λ s. x ∷ s) (parts (length p) w)) (parts (suc (length p)) w) ∙ rw (first, ← found_is xs ys w (y ∷ p) e))
@@ -95,9 +81,9 @@ module _ {X : Type 0} (letter : X → ℕ) (same : X → X → Bool) where
       cased : (k i l m : Bool) → (k && m) ≡ m → (k && (i && (l && m))) ≡ (i && (l && m))
       cased true i l m e = refl
       cased false i l true e = absurd cc
-      cased false i l false e = sym (ap (λ t. i && t) (and_none l) ∙ and_none i)
+      cased false i l false e = sym (ap (λ t. i && t) (and-false l) ∙ and-false i)
 
   -- the search decides whether the pattern occurs
   pub found_from_start : (w p : List X) → is_found letter same [] [] w p ≡ occurs letter same w p
   unfolding occurs
-  found_from_start w p = found_is [] [] w p refl ∙ list_any-agree _ _ (λ s. match_alone s p) (parts (length p) w)
+  found_from_start w p = found_is [] [] w p refl ∙ list_any-agree _ _ (parts (length p) w) (λ s _. match_alone s p)

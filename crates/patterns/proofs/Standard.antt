@@ -4,8 +4,8 @@ use Rattle.std.specs.Prelude.{◌↔◌, nat_lt}
 use Rattle.std.proofs.lemmas.List.{length-map, get_or-map}
 use Rattle.std.proofs.lemmas.List.Sums.{sum_by-cons, count_by-le-length}
 use Rattle.std.proofs.lemmas.Bool.Decides.{nat_tests}
-use Rattle.patterns.specs.Parts.{IsIn}
 use Rattle.lists.specs.Members.IsIn.{here, later}
+use Rattle.lists.specs.Members.{IsIn}
 use Rattle.patterns.specs.Occurs.{IsSameOrder}
 use Rattle.patterns.specs.Ranks.{rank, standardised}
 

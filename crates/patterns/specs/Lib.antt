@@ -1,4 +1,3 @@
-pub mod Parts
 pub mod Words
 pub mod Occurs
 pub mod Search

@@ -2,8 +2,8 @@
 use Rattle.std.specs.Prelude.{◌≡◌, ◌↔◌, ◌<◌, ℕ, Bool, true, false, not, ◌&&◌, ◌==◌, nat_lt, List, [], ◌∷◌, length, slice_index, map, filter}
 use Rattle.std.specs.Bool.{beq}
 use Rattle.std.specs.List.{list_all, list_any, zip, AllZip}
-use Rattle.patterns.specs.Parts.{IsPart, parts}
 use Rattle.patterns.specs.Words.{all_perms}
+use Rattle.lists.specs.Parts.{IsPart, parts}
 
 -- numbers that stand in the same relative order
 pub record IsSameOrder (xs ys : List ℕ) : Type 0 where

@@ -1,15 +1,10 @@
-ghost use Rattle.patterns.specs.Laws.{ContainmentIsDecided, ContainmentInCellsIsDecided, PermutationsAreListed, PermutationsAreListedOnce, PartsStandAtRisingPlaces};
+ghost use Rattle.patterns.specs.Laws.{ContainmentIsDecided, ContainmentInCellsIsDecided, PermutationsAreListed, PermutationsAreListedOnce};
 
 /// The tests of containment, without and with cells, hold exactly where some letters at rising places
 /// stand in the pattern's relative order, in its cells.
 pub fn containment_is_decided()
     ensures letters { ContainmentIsDecided }
     ensures cells { ContainmentInCellsIsDecided }
-{}
-
-/// A part of a list is what stands at some rising places of it.
-pub fn part_is_at_rising_places()
-    ensures { PartsStandAtRisingPlaces }
 {}
 
 /// The permutations of a length are the words that have each letter once; none is listed twice.

@@ -1,13 +1,14 @@
 -- A text is a basis exactly where nothing is wrong with it.
 use Rattle.std.proofs.Common.{◌≡◌, ℕ, ◌+◌, ◌≤◌, Bool, true, false, List, [], ◌∷◌, ◌++◌, length, refl, sym, ◌∙◌, length-append, arith}
-use Rattle.std.specs.Prelude.{◌&&◌, ◌==◌, ◌≢◌, not, nat_le, map}
+use Rattle.std.specs.Prelude.{◌&&◌, ◌==◌, ◌≢◌, not, nat_le}
 use Rattle.std.specs.Char.{is_ascii_digit}
 use Rattle.std.specs.List.{list_all, list_any, AllByRecursion}
 use Rattle.std.proofs.lemmas.Bool.Decides.{nat_tests}
 use Rattle.std.proofs.lemmas.List.Folds.{list_all-append}
 use Rattle.std.proofs.lemmas.List.Elements.{All-from_recursion, recursion_from_All}
+use Rattle.std.proofs.lemmas.Bool.{and_parts, and_from, or_parts, not-true, not_from_false}
+use Rattle.std.proofs.Math.Bool.{and-true}
 use Rattle.patterns.specs.Words.{has_no_repeats}
-use Rattle.patterns.proofs.Booleans.{and_true, both_true, or_false, not_true, not_false, and_end}
 use Rattle.perm_core.specs.Basis.{words_of, IsBasisWord, IsBasisText, NoneIsWrong, is_no_digit, is_repeated, is_past_nine, has_empty_word}
 use Rattle.perm_core.specs.Faults.{IsRefusedAsBasis, IsNoBasis}
 use Rattle.perm_core.specs.declared.basis.BasisFault.{BasisFault}
@@ -20,7 +21,7 @@ abbrev HasDigits : List ℕ → Type 0
 HasDigits w = list_all is_ascii_digit w ≡ true
 
 digits_push : (w : List ℕ) (b : ℕ) → HasDigits w → is_no_digit w b ≡ false → HasDigits (w ++ b ∷ [])
-digits_push w b h e = list_all-append is_ascii_digit w (b ∷ []) ∙ both_true (list_all is_ascii_digit w) (is_ascii_digit b && true) h (and_end (is_ascii_digit b) ∙ is_true (is_ascii_digit b) e)
+digits_push w b h e = list_all-append is_ascii_digit w (b ∷ []) ∙ and_from (list_all is_ascii_digit w) (is_ascii_digit b && true) h (and-true (is_ascii_digit b) ∙ is_true (is_ascii_digit b) e)
   where
     is_true : (t : Bool) → not t ≡ false → t ≡ true
     is_true true f = refl
@@ -28,20 +29,20 @@ digits_push w b h e = list_all-append is_ascii_digit w (b ∷ []) ∙ both_true 
 
 digits_pull : (w : List ℕ) (b : ℕ) → HasDigits (w ++ b ∷ []) → HasDigits w × (is_no_digit w b ≡ false)
 digits_pull w b h =
-    let both = and_true (list_all is_ascii_digit w) (is_ascii_digit b && true) (sym (list_all-append is_ascii_digit w (b ∷ [])) ∙ h) in
-    let this : is_ascii_digit b ≡ true = sym (and_end (is_ascii_digit b)) ∙ both.1 in
+    let both = and_parts (list_all is_ascii_digit w) (is_ascii_digit b && true) (sym (list_all-append is_ascii_digit w (b ∷ [])) ∙ h) in
+    let this : is_ascii_digit b ≡ true = sym (and-true (is_ascii_digit b)) ∙ both.1 in
     (both.0, rw this)
 
 abbrev HasNoRepeat : List ℕ → Type 0
 HasNoRepeat w = has_no_repeats w ≡ true
 
 repeat_push : (w : List ℕ) (b : ℕ) → HasNoRepeat w → is_repeated w b ≡ false → HasNoRepeat (w ++ b ∷ [])
-repeat_push w b h e = has_no_repeats-push w b ∙ both_true (not (is_repeated w b)) (has_no_repeats w) (not_false (is_repeated w b) e) h
+repeat_push w b h e = has_no_repeats-push w b ∙ and_from (not (is_repeated w b)) (has_no_repeats w) (not_from_false (is_repeated w b) e) h
 
 repeat_pull : (w : List ℕ) (b : ℕ) → HasNoRepeat (w ++ b ∷ []) → HasNoRepeat w × (is_repeated w b ≡ false)
 repeat_pull w b h =
-    let both = and_true (not (is_repeated w b)) (has_no_repeats w) (sym (has_no_repeats-push w b) ∙ h) in
-    (both.1, not_true (is_repeated w b) both.0)
+    let both = and_parts (not (is_repeated w b)) (has_no_repeats w) (sym (has_no_repeats-push w b) ∙ h) in
+    (both.1, not-true (is_repeated w b) both.0)
 
 abbrev IsShort : List ℕ → Type 0
 IsShort w = length w ≤ 9
@@ -65,7 +66,7 @@ is_some (x ∷ w) e f = cc
 
 some_each : (ws : List (List ℕ)) → list_any (λ w. length w == 0) ws ≡ false → AllByRecursion (λ w. w ≢ []) ws
 some_each [] e = tt
-some_each (w ∷ ws) e = let h = or_false (length w == 0) (list_any (λ v. length v == 0) ws) e in (is_some w h.0, some_each ws h.1)
+some_each (w ∷ ws) e = let h = or_parts (length w == 0) (list_any (λ v. length v == 0) ws) e in (is_some w h.0, some_each ws h.1)
 
 none_empty : (ws : List (List ℕ)) → AllByRecursion IsBasisWord ws → list_any (λ w. length w == 0) ws ≡ false
 none_empty [] h = refl
@@ -113,7 +114,3 @@ no_basis text (BadByte at) r = λ h. r.1.bad (digits_of_basis text h at r.1.with
 no_basis text (Repeated at) r = λ h. r.1.bad (distinct_of_basis text h at r.1.within)
 no_basis text (TooLong at) r = λ h. r.1.bad (short_of_basis text h at r.1.within)
 no_basis text TooMany r = λ h. let few = h.few in let many = r.1 in omega arith
-
-pub list_any-map : {X Y : Type 0} (f : X → Y) (test : Y → Bool) (xs : List X) → list_any test (map f xs) ≡ list_any (λ x. test (f x)) xs
-list_any-map f test [] = refl
-list_any-map f test (x ∷ xs) = rw (list_any-map f test xs)

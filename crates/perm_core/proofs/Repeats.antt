@@ -4,7 +4,8 @@ use Rattle.std.specs.Prelude.{◌&&◌, ◌||◌, ◌==◌, ◌≢◌, not}
 use Rattle.std.specs.List.{list_any, AllByRecursion}
 use Rattle.std.proofs.lemmas.Bool.Decides.{nat_tests}
 use Rattle.std.proofs.lemmas.List.Folds.{list_any-append}
-use Rattle.patterns.proofs.Booleans.{and_true, or_end, not_true}
+use Rattle.std.proofs.lemmas.Bool.{and_parts, not-true}
+use Rattle.std.proofs.Math.Bool.{or-false}
 use Rattle.patterns.specs.Words.{has_no_repeats}
 use Rattle.patterns.specs.Laws.{IsPermutationOf}
 use Rattle.perm_core.specs.Perms.{IsPerm, IsDistinct}
@@ -35,9 +36,9 @@ pub distinct_from_test : (w : List ℕ) → has_no_repeats w ≡ true → IsDist
 distinct_from_test [] e k l j m = absurd (omega arith)
 distinct_from_test (x ∷ xs) e zero l j m = absurd (omega arith)
 distinct_from_test (x ∷ xs) e (suc k) l zero m =
-    differs_from_each x xs (not_true (list_any (λ y. x == y) xs) (and_true (not (list_any (λ y. x == y) xs)) (has_no_repeats xs) e).0) k (omega arith)
+    differs_from_each x xs (not-true (list_any (λ y. x == y) xs) (and_parts (not (list_any (λ y. x == y) xs)) (has_no_repeats xs) e).0) k (omega arith)
 distinct_from_test (x ∷ xs) e (suc k) l (suc j) m =
-    distinct_from_test xs (and_true (not (list_any (λ y. x == y) xs)) (has_no_repeats xs) e).1 k (omega arith) j (omega arith)
+    distinct_from_test xs (and_parts (not (list_any (λ y. x == y) xs)) (has_no_repeats xs) e).1 k (omega arith) j (omega arith)
 
 -- ---- permutations
 below_each : (n : ℕ) (w : List ℕ) → ((k : ℕ) → k < length w → get_or w k 0 < n) → AllByRecursion (λ x. x < n) w
@@ -68,7 +69,7 @@ pub has_no_repeats-push : (w : List ℕ) (x : ℕ) → has_no_repeats (w ++ x �
 has_no_repeats-push [] x = refl
 has_no_repeats-push (z ∷ w) x =
     let met : list_any (λ y. z == y) (w ++ x ∷ []) ≡ (list_any (λ y. z == y) w || (z == x)) =
-    list_any-append (λ y. z == y) w (x ∷ []) ∙ rw (or_end (z == x)) in
+    list_any-append (λ y. z == y) w (x ∷ []) ∙ rw (or-false (z == x)) in
     rw (met, has_no_repeats-push w x) (shuffled (list_any (λ y. z == y) w) (z == x) (list_any (λ y. y == x) w) (has_no_repeats w))
   where
     shuffled : (p q r s : Bool) → (not (p || q) && (not r && s)) ≡ (not (q || r) && (not p && s))

@@ -1,18 +1,11 @@
 -- Standardised words are permutations.
-use Rattle.std.proofs.Common.{◌≡◌, ℕ, zero, suc, ◌+◌, ◌<◌, ◌≤◌, List, [], ◌∷◌, length, get_or, take, set, sym, ap, subst, ◌∙◌, arith}
+use Rattle.std.proofs.Common.{◌≡◌, ℕ, ◌+◌, ◌<◌, ◌≤◌, List, [], ◌∷◌, length, get_or, take, set, sym, ap, subst, ◌∙◌, arith}
 use Rattle.std.specs.Prelude.{map, nat_lt}
 use Rattle.std.proofs.lemmas.List.{length-map, get_or-map, take_more_set, take_more, take_all, map-append}
 use Rattle.std.proofs.lemmas.List.Sums.{count_by-le-length}
-use Rattle.patterns.specs.Parts.{IsIn}
-use Rattle.lists.specs.Members.IsIn.{here, later}
 use Rattle.patterns.specs.Ranks.{rank, standardised}
-use Rattle.patterns.proofs.Standard.{rank-lt-length, standardised_same_order}
+use Rattle.patterns.proofs.Standard.{rank-lt-length, standardised_same_order, in_at}
 use Rattle.perm_core.specs.Perms.{IsPerm, IsDistinct}
-
-item_at : (xs : List ℕ) (i : ℕ) → i < length xs → IsIn (get_or xs i 0) xs
-item_at [] i h = absurd (omega arith)
-item_at (x ∷ xs) zero h = here
-item_at (x ∷ xs) (suc i) h = later x (item_at xs i (omega arith))
 
 pub length-standardised : (xs : List ℕ) → length (standardised xs) ≡ length xs
 length-standardised xs = length-map xs (rank xs)
@@ -28,7 +21,7 @@ standardised_perm xs h k l =
     let within : k < length xs = omega (arith, length-standardised xs) in
     let order = standardised_same_order xs in
     record {
-      below = let small = rank-lt-length (get_or xs k 0) (item_at xs k within) in omega (arith, rank_at xs k within, length-standardised xs);
+      below = let small = rank-lt-length (get_or xs k 0) (in_at xs k within) in omega (arith, rank_at xs k within, length-standardised xs);
       new = λ j m e.
           let up = (order.alike j k (omega arith) within).1 in
           let down = (order.alike k j within (omega arith)).1 in

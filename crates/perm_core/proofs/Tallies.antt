@@ -1,16 +1,20 @@
 -- Counts of the words that begin with some letters.
 use Rattle.std.proofs.Common.{◌≡◌, ℕ, zero, suc, ◌+◌, ◌-◌, ◌*◌, ◌^◌, ◌<◌, ◌≤◌, Bool, true, false, cond, List, [], ◌∷◌, ◌++◌, length, refl, sym, ap, ◌∙◌, arith, length-append, append_assoc, zero-add, add-zero, rules, Fits, w64, ⊎_elim}
-use Rattle.std.specs.Prelude.{◌&&◌, ◌==◌, not, map, count_by, sum_by}
+use Rattle.std.specs.Prelude.{◌==◌, not, map, count_by, sum_by}
 use Rattle.std.specs.List.{range_with_len, flat_map, list_any, filter}
 use Rattle.std.proofs.lemmas.List.{map-append, map-id, append-nil, length-map}
-use Rattle.std.proofs.lemmas.List.Sums.{sum_by-append, sum_by-cons, sum_by_push, count_by-le-length, length-filter}
+use Rattle.std.proofs.lemmas.List.Sums.{sum_by-append, sum_by-cons, count_by-le-length, length-filter}
 use Rattle.std.proofs.lemmas.List.FromFn.{length-range_with_len}
 use Rattle.std.proofs.Math.Nat.{pow-le-pow_left, pow-le-pow_right, zero-mul, pow-zero, pow-succ'}
-use Rattle.patterns.specs.Words.{words, has_no_repeats}
+use Rattle.std.proofs.lemmas.Bool.{or_cases}
+use Rattle.std.proofs.Math.Bool.{or-true, and-false}
+use Rattle.patterns.specs.Words.{has_no_repeats}
 use Rattle.patterns.specs.Occurs.{avoids, avoiders}
-use Rattle.patterns.proofs.Booleans.{or_true, or_all, and_none}
 use Rattle.perm_core.proofs.Repeats.{has_no_repeats-push}
 use Rattle.perm_core.specs.Tally.{tally_of, passes}
+use Rattle.lists.proofs.Filters.{filter-filter}
+use Rattle.lists.proofs.Counts.{sum_next}
+use Rattle.lists.specs.Words.{words}
 
 map_joined : (start : List ℕ) (x : ℕ) (ws : List (List ℕ)) → map (λ w. start ++ w) (map (λ w. x ∷ w) ws) ≡ map (λ w. (start ++ x ∷ []) ++ w) ws
 map_joined start x [] = refl
@@ -37,13 +41,13 @@ tally_end basis n left start e f = rw (e, append-nil start, f) (zero-add (cond (
 -- ---- repeats
 met_again : (z x : ℕ) (start w : List ℕ) → (z == x) ≡ true → list_any (λ y. z == y) ((start ++ x ∷ []) ++ w) ≡ true
 met_again z x [] w e = rw e
-met_again z x (y ∷ start) w e = rw (met_again z x start w e) (or_all (z == y))
+met_again z x (y ∷ start) w e = rw (met_again z x start w e) (or-true (z == y))
 
 repeated : (start : List ℕ) (x : ℕ) (w : List ℕ) → list_any (λ y. y == x) start ≡ true → has_no_repeats ((start ++ x ∷ []) ++ w) ≡ false
 repeated [] x w e = absurd cc
 repeated (z ∷ start) x w e =
-    ⊎_elim {C = has_no_repeats (((z ∷ start) ++ x ∷ []) ++ w) ≡ false} (λ h. rw (met_again z x start w h)) (λ h. rw (repeated start x w h) (and_none (not (list_any (λ y. z == y) ((start ++ x ∷ []) ++ w)))))
-    (or_true (z == x) (list_any (λ y. y == x) start) e)
+    ⊎_elim {C = has_no_repeats (((z ∷ start) ++ x ∷ []) ++ w) ≡ false} (λ h. rw (met_again z x start w h)) (λ h. rw (repeated start x w h) (and-false (not (list_any (λ y. z == y) ((start ++ x ∷ []) ++ w)))))
+    (or_cases (z == x) (list_any (λ y. y == x) start) e)
 
 pub fresh-push : (start : List ℕ) (x : ℕ) → has_no_repeats start ≡ true → list_any (λ y. y == x) start ≡ false → has_no_repeats (start ++ x ∷ []) ≡ true
 fresh-push start x e f = has_no_repeats-push start x ∙ rw (e, f)
@@ -81,17 +85,6 @@ tally_small basis n left start h k =
     let g : length (words (range_with_len 0 n) left) ≡ n ^ left = c ∙ ap (λ m. m ^ left) d in
     omega arith
 
--- the letters below one, and then the next
-range-push : (a n : ℕ) → range_with_len a (n + 1) ≡ range_with_len a n ++ (a + n) ∷ []
-range-push a zero = rw add-zero
-range-push a (suc n) =
-    let e : suc n + 1 ≡ suc (n + 1) = omega arith in
-    let f : a + 1 + n ≡ a + suc n = omega arith in
-    rw (e, range-push (a + 1) n, f)
-
-pub sum_next : (F : ℕ → ℕ) (i : ℕ) → sum_by F (range_with_len 0 (i + 1)) ≡ sum_by F (range_with_len 0 i) + F i
-sum_next F i = rw (range-push 0 i, zero-add i) (sum_by_push F (range_with_len 0 i) i)
-
 sum_grows : (F : ℕ → ℕ) (i d : ℕ) → sum_by F (range_with_len 0 i) ≤ sum_by F (range_with_len 0 (i + d))
 sum_grows F i zero = rw add-zero (omega arith)
 sum_grows F i (suc d) =
@@ -109,14 +102,6 @@ sum_below F i n h =
 -- two numbers below a small sum
 pub sum_fits : (a b : ℕ) {s f w t : ℕ} → a ≡ s → b ≡ f → s + f ≤ w → t ≡ w → t ≤ 387420489 → Fits w64 (a + b)
 sum_fits a b p q r e l = search rules
-
-filter-filter : {X : Type 0} (p q : X → Bool) (xs : List X) → filter p (filter q xs) ≡ filter (λ x. q x && p x) xs
-filter-filter p q [] = refl
-filter-filter {X} p q (x ∷ xs) = go (q x) (filter-filter p q xs)
-  where
-    go : (b : Bool) → filter p (filter q xs) ≡ filter (λ y. q y && p y) xs → filter p (cond b (x ∷ filter q xs) (filter q xs)) ≡ cond (b && p x) (x ∷ filter (λ y. q y && p y) xs) (filter (λ y. q y && p y) xs)
-    go true e = ap (λ l. cond (p x) (x ∷ l) l) e
-    go false e = e
 
 pub tally_whole : (basis : List (List ℕ)) (n : ℕ) → tally_of basis n [] (n - 0) ≡ avoiders basis n
 tally_whole basis n =

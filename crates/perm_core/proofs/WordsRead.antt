@@ -1,9 +1,9 @@
 -- The word that is read at a place of a text.
-use Rattle.std.proofs.Common.{◌≡◌, ℕ, zero, suc, ◌+◌, ◌-◌, ◌<◌, ◌≤◌, Bool, true, false, cond, List, [], ◌∷◌, ◌++◌, length, get_or, take, drop, refl, sym, ap, ◌∙◌, length-drop, arith}
+use Rattle.std.proofs.Common.{◌≡◌, ℕ, ◌+◌, ◌-◌, ◌<◌, ◌≤◌, Bool, true, false, cond, List, [], ◌∷◌, ◌++◌, length, get_or, take, drop, refl, sym, ap, ◌∙◌, length-drop, arith}
 use Rattle.std.specs.Prelude.{◌&&◌, not}
 use Rattle.std.specs.List.{slice_range}
 use Rattle.std.proofs.lemmas.List.{take_more, get_or-drop}
-use Rattle.patterns.proofs.Booleans.{and_none}
+use Rattle.std.proofs.Math.Bool.{and-false}
 use Rattle.perm_core.specs.Basis.{is_separator, last_word, word_before, is_wrong_at}
 
 last_word-push : (w bs : List ℕ) (b : ℕ) → last_word w (bs ++ b ∷ []) ≡ cond (is_separator b) [] (last_word w bs ++ b ∷ [])
@@ -41,15 +41,7 @@ pub separator_is_right : (wrong : List ℕ → ℕ → Bool) (text : List ℕ) (
 separator_is_right wrong text k e = rw e
 
 pub is_right : (wrong : List ℕ → ℕ → Bool) (text w : List ℕ) (k : ℕ) → w ≡ word_before text k → wrong w (get_or text k 0) ≡ false → is_wrong_at wrong text k ≡ false
-is_right wrong text w k e f = rw (← e, f) (and_none (not (is_separator (get_or text k 0))))
+is_right wrong text w k e f = rw (← e, f) (and-false (not (is_separator (get_or text k 0))))
 
 pub is_wrong : (wrong : List ℕ → ℕ → Bool) (text w : List ℕ) (k : ℕ) → w ≡ word_before text k → is_separator (get_or text k 0) ≡ false → wrong w (get_or text k 0) ≡ true → is_wrong_at wrong text k ≡ false → ⊥
 is_wrong wrong text w k e f g h = let now : (not (is_separator (get_or text k 0)) && wrong (word_before text k) (get_or text k 0)) ≡ true = rw (← e, f, g) in let clash : true ≡ false = sym now ∙ h in cc
-
--- each place up to the next
-pub more_places : (P : ℕ → Type 0) (n : ℕ) → ((k : ℕ) → k < n → P k) → P n → (k : ℕ) → k < n + 1 → P k
-more_places P n h here k l = go (n - k) refl
-  where
-    go : (d : ℕ) → n - k ≡ d → P k
-    go zero e = let same : k ≡ n = omega arith in rw same here
-    go (suc d) e = h k (omega arith)

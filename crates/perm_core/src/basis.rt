@@ -9,21 +9,28 @@ use crate::perm::Perm;
 use crate::standard::standardised;
 use sequences::ascending;
 use std::alloc::{AllocError, Global};
+use thiserror::Error;
 
 /// Why a text is no basis. Places are byte places from 0. Of the refusals that apply the first is answered.
-#[derive(Debug, PartialEq, Eq, Drop)]
+#[derive(Debug, PartialEq, Eq, Error, Drop)]
 pub enum BasisFault {
     /// Some word is empty.
+    #[error("some word is empty")]
     Empty,
     /// The first byte that is no digit, `_` or `,`.
+    #[error("the byte at place {at} is neither a digit nor a separator")]
     BadByte { at: u64 },
     /// The first byte that equals an earlier one of its word.
+    #[error("the digit at place {at} repeats in its word")]
     Repeated { at: u64 },
     /// The tenth byte of the first word over 9.
+    #[error("the word that the byte at place {at} belongs to is longer than 9")]
     TooLong { at: u64 },
     /// There are more than 32 words, repeats included.
+    #[error("there are more than 32 words")]
     TooMany,
     /// There was no memory.
+    #[error("out of memory")]
     Memory,
 }
 

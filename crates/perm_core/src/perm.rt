@@ -4,6 +4,7 @@ ghost use Rattle.perm_core.specs.Perms.{IsPerm, IsFirstBadPlace};
 
 use std::alloc::Global;
 use std::marker::Model;
+use thiserror::Error;
 
 /// A permutation of 0 to n - 1, with n at most 9, which lies in the value itself. Contracts see it as the
 /// list of its letters. Permutations are ordered by length, then by letters (docs/RULES.md,
@@ -31,11 +32,13 @@ impl Model for Perm {
 }
 
 /// Why letters are no permutation.
-#[derive(Debug, PartialEq, Eq, Drop)]
+#[derive(Debug, PartialEq, Eq, Error, Drop)]
 pub enum PermFault {
     /// Some letter isn't below the length or equals an earlier one, and this is the first such place.
+    #[error("the letter at place {index} is too high or repeats")]
     NotPerm { index: u32 },
     /// There was no memory.
+    #[error("out of memory")]
     Memory,
 }
 

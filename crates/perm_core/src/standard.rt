@@ -6,13 +6,16 @@ ghost use Rattle.perm_core.specs.Faults.{IsRefusedAsDigits};
 
 use crate::perm::Perm;
 use std::alloc::Global;
+use thiserror::Error;
 
 /// Why digits are not standardised.
-#[derive(Debug, PartialEq, Eq, Drop)]
+#[derive(Debug, PartialEq, Eq, Error, Drop)]
 pub enum DigitFault {
     /// Some digit equals an earlier one, and this is the first such place.
+    #[error("the digit at place {index} repeats")]
     Repeated { index: u32 },
     /// There was no memory.
+    #[error("out of memory")]
     Memory,
 }
 

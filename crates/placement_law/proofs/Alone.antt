@@ -1,33 +1,33 @@
 -- A point alone in its column and its row, and the patterns that say so.
-use Rattle.std.proofs.Common.{◌≡◌, ◌<◌, ℕ, Bool, true, false, List, [], ◌∷◌, refl, sym, ap, ◌∙◌, arith, inl, inr, ⊎_elim}
+use Rattle.std.proofs.Common.{◌≡◌, ◌<◌, ℕ, Bool, true, false, List, [], ◌∷◌, refl, sym, ap, ◌∙◌, arith, ⊎_elim}
 use Rattle.std.specs.Prelude.{◌&&◌, ◌⊎◌, not, ◌==◌, map, filter}
 use Rattle.std.specs.List.{list_all}
 use Rattle.std.proofs.lemmas.Bool.Decides.{nat_tests, Decides-eqb}
-use Rattle.patterns.specs.Parts.{IsIn, IsPart}
-use Rattle.lists.specs.Members.IsIn.{here, later}
-use Rattle.lists.specs.Parts.IsPart.{none, kept, left_out}
-use Rattle.patterns.specs.Occurs.{stand_alike, stands_as}
-use Rattle.patterns.proofs.Booleans.{and_true, both_true, or_true, or_all, not_false}
-use Rattle.patterns.proofs.Lists.{IsIn-map, from_IsIn-map, IsIn-filter, from_IsIn-filter}
-use Rattle.patterns.proofs.Occurrences.{match_tells, match_from, alike_tells}
+use Rattle.std.proofs.lemmas.Bool.{false_from_ne_true, and_parts, and_from, or_cases, not_from_false}
+use Rattle.std.proofs.Math.Bool.{or-true}
+use Rattle.lists.proofs.Numbers.{Standing, standing}
+use Rattle.patterns.proofs.Occurrences.{alike_tells}
 use Rattle.gridded.specs.declared.axis.Axis.{Axis}
 use Rattle.gridded.specs.declared.axis.Axis.TheVariants as axis
 use Rattle.gridded.specs.declared.cell.Cell.{Cell}
 use Rattle.gridded.specs.Axes.{line_of, shares_line}
-use Rattle.gridded.specs.Grids.{Point, letter_of, same_cell, holds, cells_in}
+use Rattle.gridded.specs.Grids.{Point, holds, cells_in}
 use Rattle.gridded.specs.Orders.{cell_eq}
 use Rattle.gridded.specs.OrderLaws.{cell_eq_decides}
 use Rattle.gridded.specs.Laws.{IsCellOf}
 use Rattle.gridded.proofs.GriddedLists.{IsIn-cells_in}
 use Rattle.tiling_core.specs.Tiles.{Tiles}
 use Rattle.gridded.specs.Small.{point_at, rising, falling}
-use Rattle.tiling_core.proofs.Deciding.{each_passes, all_pass, false_from, not_held}
+use Rattle.tiling_core.proofs.Deciding.{not_held}
 use Rattle.gridded.proofs.Pairs.{two, point_held, holds_its_point, pair_held, holds_pair}
-use Rattle.patterns.proofs.PartLaws.{IsPart-two}
 use Rattle.rule_kinds.specs.Children.{alone_in}
-use Rattle.placement_law.proofs.Positions.{Distinct, letters_apart}
-use Rattle.placement_law.proofs.Thirds.{Standing, standing}
-use Rattle.placement_law.proofs.Thirds.Standing.{less, more, even}
+use Rattle.gridded.proofs.Positions.{Distinct, letters_apart}
+use Rattle.lists.proofs.Numbers.Standing.{less, more, even}
+use Rattle.lists.proofs.Tests.{each_passes, all_pass}
+use Rattle.lists.specs.Members.{IsIn}
+use Rattle.lists.specs.Parts.{IsPart}
+use Rattle.lists.proofs.Members.{IsIn-map, from_IsIn-map, IsIn-filter, from_IsIn-filter}
+use Rattle.lists.proofs.Parts.{IsPart-two}
 
 -- ---- alone
 pub record IsOnly (m : Cell) (h : List Point) (z : Point) : Type 0 where
@@ -60,22 +60,22 @@ others t m = map point_at (filter (λ c. other_cell m c) (cells_in t.width t.hei
 
 no_other : (m : Cell) (h : List Point) (z : Point) (c : Cell) → IsOnly m h z → other_cell m c ≡ true → holds h (point_at c) ≡ true → ⊥
 no_other m h z c o e f =
-    let k = and_true (shares_line c m) (not (cell_eq c m)) e in
+    let k = and_parts (shares_line c m) (not (cell_eq c m)) e in
     let p = point_held h c f in
     let s = ⊎_elim {C = p.0 ≡ z}
     (λ u. o.only axis.Column p.0 p.1 (ap (λ (d : Cell). d.x) p.2 ∙ (Decides-eqb c.x m.x).0 u))
-    (λ u. o.only axis.Row p.0 p.1 (ap (λ (d : Cell). d.y) p.2 ∙ (Decides-eqb c.y m.y).0 u)) (or_true (c.x == m.x) (c.y == m.y) k.0) in
+    (λ u. o.only axis.Row p.0 p.1 (ap (λ (d : Cell). d.y) p.2 ∙ (Decides-eqb c.y m.y).0 u)) (or_cases (c.x == m.x) (c.y == m.y) k.0) in
     let same : c ≡ m = sym p.2 ∙ ap (λ (w : Point). w.cell) s ∙ o.at in
     not_held (cell_eq c m) k.1 ((cell_eq_decides c m).1 same)
 
 pub avoids_alone : (t : Tiles) (m : Cell) (h : List Point) (z : Point) → IsOnly m h z → list_all (λ p. not (holds h p)) (alone_in t m) ≡ true
 avoids_alone t m h z o =
-    both_true _ _ (not_false (holds h (rising m m)) (false_from (holds h (rising m m)) (no_pair m h z 0 1 (λ e. omega arith) o)))
-    (both_true _ _ (not_false (holds h (falling m m)) (false_from (holds h (falling m m)) (no_pair m h z 1 0 (λ e. omega arith) o)))
+    and_from _ _ (not_from_false (holds h (rising m m)) (false_from_ne_true (holds h (rising m m)) (no_pair m h z 0 1 (λ e. omega arith) o)))
+    (and_from _ _ (not_from_false (holds h (falling m m)) (false_from_ne_true (holds h (falling m m)) (no_pair m h z 1 0 (λ e. omega arith) o)))
     (all_pass (λ p. not (holds h p)) (map point_at (filter (λ c. other_cell m c) (cells_in t.width t.height)))
     (λ p i. let k = from_IsIn-map point_at (filter (λ c. other_cell m c) (cells_in t.width t.height)) i in
     let l = from_IsIn-filter (λ c. other_cell m c) (cells_in t.width t.height) k.1 in
-    rw k.2 (not_false (holds h (point_at k.0)) (false_from (holds h (point_at k.0)) (no_other m h z k.0 o l.1))))))
+    rw k.2 (not_from_false (holds h (point_at k.0)) (false_from_ne_true (holds h (point_at k.0)) (no_other m h z k.0 o l.1))))))
 
 pub only_from : (t : Tiles) (m : Cell) (h : List Point) → Distinct h → ((y : Point) → IsIn y h → IsCellOf t.width t.height y.cell) → list_all (λ p. not (holds h p)) (alone_in t m) ≡ true → (z : Point) → IsIn z h → z.cell ≡ m → IsOnly m h z
 only_from t m h d inside e z i at = record {
@@ -85,10 +85,10 @@ only_from t m h d inside e z i at = record {
 }
   where
     first : (not (holds h (rising m m)) ≡ true) × (list_all (λ p. not (holds h p)) (falling m m ∷ others t m) ≡ true)
-    first = and_true (not (holds h (rising m m))) (list_all (λ p. not (holds h p)) (falling m m ∷ others t m)) e
+    first = and_parts (not (holds h (rising m m))) (list_all (λ p. not (holds h p)) (falling m m ∷ others t m)) e
 
     rest : (not (holds h (falling m m)) ≡ true) × (list_all (λ p. not (holds h p)) (others t m) ≡ true)
-    rest = and_true (not (holds h (falling m m))) (list_all (λ p. not (holds h p)) (others t m)) first.1
+    rest = and_parts (not (holds h (falling m m))) (list_all (λ p. not (holds h p)) (others t m)) first.1
 
     both_ways : (y : Point) → y.cell ≡ m → (u v : Point) → u.cell ≡ m → v.cell ≡ m → IsPart (u ∷ v ∷ []) h → Standing u.letter v.letter → u.letter ≡ v.letter
     both_ways y f u v g k p (less q) = absurd (not_held (holds h (rising m m)) first.0 (holds_pair h 0 1 m m u v p g k (grind (arith, nat_tests, q))))
@@ -106,10 +106,10 @@ only_from t m h d inside e z i at = record {
 
     shares : (a : Axis) (c : Cell) → line_of a c ≡ line_of a m → shares_line c m ≡ true
     shares axis.Column c f = let k : (c.x == m.x) ≡ true = (Decides-eqb c.x m.x).1 f in rw k refl
-    shares axis.Row c f = let k : (c.y == m.y) ≡ true = (Decides-eqb c.y m.y).1 f in rw k (or_all (c.x == m.x))
+    shares axis.Row c f = let k : (c.y == m.y) ≡ true = (Decides-eqb c.y m.y).1 f in rw k (or-true (c.x == m.x))
 
     go : (a : Axis) (y : Point) → IsIn y h → line_of a y.cell ≡ line_of a m → (b : Bool) → cell_eq y.cell m ≡ b → y ≡ z
     go a y j f true g = letters_apart h d y z j i (one_letter y j ((cell_eq_decides y.cell m).0 g) (standing y.letter z.letter))
     go a y j f false g =
-        let there = IsIn-map point_at (IsIn-filter (λ c. other_cell m c) (IsIn-cells_in t.width t.height y.cell (inside y j)) (both_true (shares_line y.cell m) (not (cell_eq y.cell m)) (shares a y.cell f) (not_false (cell_eq y.cell m) g))) in
-        absurd (not_held (holds h (point_at y.cell)) (each_passes (λ p. not (holds h p)) there rest.1) (holds_its_point h y y.cell j refl))
+        let there = IsIn-map point_at (IsIn-filter (λ c. other_cell m c) (IsIn-cells_in t.width t.height y.cell (inside y j)) (and_from (shares_line y.cell m) (not (cell_eq y.cell m)) (shares a y.cell f) (not_from_false (cell_eq y.cell m) g))) in
+        absurd (not_held (holds h (point_at y.cell)) (each_passes (λ p. not (holds h p)) rest.1 there) (holds_its_point h y y.cell j refl))

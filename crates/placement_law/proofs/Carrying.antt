@@ -6,10 +6,12 @@ use Rattle.std.specs.Option.{option_map_or}
 use Rattle.std.proofs.lemmas.Bool.Decides.{nat_tests}
 use Rattle.std.proofs.lemmas.List.{length-map}
 use Rattle.std.proofs.lemmas.List.Elements.{recursion_from_All}
-use Rattle.patterns.specs.Parts.{IsIn}
-use Rattle.lists.specs.Members.IsIn.{here, later}
-use Rattle.patterns.proofs.Booleans.{and_true, both_true, not_false}
-use Rattle.patterns.proofs.Lists.{IsIn-map, from_IsIn-map, IsIn-filter, from_IsIn-filter}
+use Rattle.std.proofs.lemmas.Bool.{false_from_ne_true, and_parts, not_from_false}
+use Rattle.lists.proofs.Places.{IsAt, at_in, at_get, at_map, at_below, is_at, at_position}
+use Rattle.lists.proofs.Members.{of_each, IsIn-map, from_IsIn-map, IsIn-filter, from_IsIn-filter}
+use Rattle.lists.proofs.Tests.{each_passes, all_pass, which_passes, some_passes}
+use Rattle.lists.proofs.Maps.{map_back}
+use Rattle.lists.specs.Members.{IsIn}
 use Rattle.gridded.specs.declared.axis.Axis.{Axis}
 use Rattle.gridded.specs.declared.axis.Axis.TheVariants as axis
 use Rattle.gridded.specs.declared.cell.Cell.{Cell}
@@ -21,8 +23,7 @@ use Rattle.gridded.specs.Laws.{IsCellOf}
 use Rattle.tiling_core.specs.Tiles.{Tiles, IsTiling, is_member}
 use Rattle.tiling_core.specs.Carried.{MemberOf, CarriesTo}
 use Rattle.tiling_core.specs.Patterns.{also}
-use Rattle.tiling_core.proofs.Deciding.{is_member_decides, fits_grid_decides, each_passes, all_pass, one_passes, some_passes, false_from, not_held}
-use Rattle.tiling_core.proofs.Ordered.{is_member-also}
+use Rattle.tiling_core.proofs.Deciding.{fits_grid_decides, not_held}
 use Rattle.coord_maps.specs.LineMaps.{old_line, part_at, in_three}
 use Rattle.coord_maps.specs.GridMaps.{IsGridMap, collapse, old_cell}
 use Rattle.gridded.specs.Moved.{moved, relocated}
@@ -38,15 +39,15 @@ use Rattle.rule_kinds.specs.Conditions as D
 use Rattle.rule_kinds.specs.Conditions.{applies, all_distinct, on_one_line}
 use Rattle.rule_kinds.specs.Carry.{Image, is_pointed_by, pointed_points, farthest, split, number_of, pattern_of_child, split_cell}
 use Rattle.rule_kinds.specs.Carried.{numbered_image, from_image, IsCarriedOneToOne}
-use Rattle.tiling_core.proofs.Further.{holding_none, from_further}
+use Rattle.tiling_core.proofs.Further.{holding_none, from_further, member_by_test}
 use Rattle.placement_law.specs.Placing.{PlacementsCarryMembers}
-use Rattle.placement_law.proofs.Positions.{Distinct, IsAlong, along, rank_relocated}
-use Rattle.placement_law.proofs.Thirds.{part_again, old_of_middle}
+use Rattle.gridded.proofs.Positions.{Distinct, IsAlong, along, rank_relocated}
+use Rattle.coord_maps.proofs.Thirds.{part_again, old_of_middle}
 use Rattle.placement_law.proofs.Splits.{collapse_of_split, split_is_gridded, middle_of_split, only_in_split, line_of_middle}
 use Rattle.placement_law.proofs.Alone.{IsOnly}
 use Rattle.placement_law.proofs.Marked.{pointed_cell_is, held_when_pointed, pointed_when_held, point_in_list}
 use Rattle.placement_law.proofs.Farthest.{line_not_beyond, rank_not_beyond, farthest_tells, farthest_none, farthest_of_none, farthest_is}
-use Rattle.placement_law.proofs.Numbered.{IsAt, at_in, at_get, at_map, at_below, at_place, at_position, each_of, one_pointed, position_is}
+use Rattle.placement_law.proofs.Numbered.{one_pointed, position_is}
 use Rattle.placement_law.proofs.Placed.{around_is_map, placed_from, placed_tells}
 
 -- ---- beyond by line and by rank
@@ -74,25 +75,18 @@ axis_again a lines c h z y at rq rp k o i ea eq ep =
     (λ e. ap (λ (w : Point). line_of a w.cell) (k.same y z i o.there e) ∙ lm)
     (λ e. ap (λ (w : Point). rank_along a h w) (o.only a y i (e ∙ sym (line_of_middle a c))))
 
-map_back_in : {X Y : Type 0} (f : X → Y) (b : Y → X) (ys : List Y) → ((y : Y) → IsIn y ys → f (b y) ≡ y) → map f (map b ys) ≡ ys
-map_back_in f b [] e = refl
-map_back_in f b (y ∷ ys) e = let first = e y here in let rest = map_back_in f b ys (λ z i. e z (later y i)) in λ i. first i ∷ rest i
-
 middle_collapses : (t : Tiles) (c : Cell) (z : Point) → z.cell ≡ middle c → (moved (old_cell (around t c)) z).cell ≡ c
 middle_collapses t c z e =
     ap (λ (u : Cell). old_cell (around t c) u) e ∙ (let ex = old_of_middle t.width c.x in let ey = old_of_middle t.height c.y in λ i. record { x = ex i; y = ey i })
 
 split_again : (t : Tiles) (c : Cell) (h : List Point) (z : Point) → Distinct h → is_consistent h ≡ true → IsOnly (middle c) h z → split (collapse (around t c) h) (moved (old_cell (around t c)) z) ≡ h
 split_again t c h z d e o =
-    map_back_in (relocated (split_cell (collapse (around t c) h) (moved (old_cell (around t c)) z))) (moved (old_cell (around t c))) h
+    map_back (relocated (split_cell (collapse (around t c) h) (moved (old_cell (around t c)) z))) (moved (old_cell (around t c))) h
     (λ y i.
     let p = middle_collapses t c z o.at in
     let ex = axis_again axis.Column t.width c h z y _ _ _ (along axis.Column h d e) o i (ap (λ (u : Cell). u.x) p) (rank_relocated axis.Column (λ w. old_cell (around t c) w.cell) h y) (rank_relocated axis.Column (λ w. old_cell (around t c) w.cell) h z) in
     let ey = axis_again axis.Row t.height c h z y _ _ _ (along axis.Row h d e) o i (ap (λ (u : Cell). u.y) p) (rank_relocated axis.Row (λ w. old_cell (around t c) w.cell) h y) (rank_relocated axis.Row (λ w. old_cell (around t c) w.cell) h z) in
     λ j. record { letter = y.letter; cell = record { x = ex j; y = ey j } })
-
-member_by_test : (t : Tiles) (n : ℕ) (g : List Point) → MemberOf t n g → is_member t g ≡ true
-member_by_test t n g m = (is_member_decides t g).1 m.member
 
 module _ (listed : PreimagesAreListed) (keeps : StretchKeepsMembers) (collapsed : CollapseIsGridded) (t : Tiles) (tiling : IsTiling t) (qs : List PointedPattern) (pointed : (q : PointedPattern) → IsIn q qs → IsPointed q) (d : Direction) (narrow : t.width ≤ 6) (low : t.height ≤ 6) (inside : (q : PointedPattern) → IsIn q qs → IsCellOf t.width t.height (pointed_cell q)) (distinct : all_distinct (map pointed_cell qs) ≡ true) where
   over_is_map : (q : PointedPattern) → IsIn q qs → IsGridMap (over_of t q)
@@ -114,7 +108,7 @@ module _ (listed : PreimagesAreListed) (keeps : StretchKeepsMembers) (collapsed 
   split_member n g p m e =
       let far = farthest_tells d g (pointed_points qs g) p e in
       let inp = from_IsIn-filter (is_some_pointed g) g far.0 in
-      let w = one_passes (λ q. is_pointed_by g q p) qs inp.1 in
+      let w = which_passes (λ q. is_pointed_by g q p) qs inp.1 in
       let c' : p.cell ≡ pointed_cell w.0 = pointed_cell_is g w.0 p m.gridded.distinct (pointed w.0 w.1) inp.0 w.2 in
       let at = at_position (λ q. cell_eq p.cell (pointed_cell q)) qs (some_passes (λ q. cell_eq p.cell (pointed_cell q)) w.1 ((cell_eq_decides p.cell (pointed_cell w.0)).1 c')) in
       let q : PointedPattern = at.0 in
@@ -179,7 +173,7 @@ module _ (listed : PreimagesAreListed) (keeps : StretchKeepsMembers) (collapsed 
             (λ r i.
             let s = from_IsIn-filter (is_some_pointed g) g i in
             let y = from_IsIn-map (moved (old_cell (over_of t q))) h s.0 in
-            let w = one_passes (λ u. is_pointed_by g u r) qs s.1 in
+            let w = which_passes (λ u. is_pointed_by g u r) qs s.1 in
             let by : is_pointed_by g w.0 y.0 ≡ true = sym (ap (λ (u : Point). is_pointed_by g w.0 u) y.2) ∙ w.2 in
             let n = told.1.1.none_beyond w.0 w.1 y.0 y.1 by in
             let line : is_farther d (line_of (axis_of d) y.0.cell) (line_of (axis_of d) z.cell) ≡ false = ap (λ (u : Cell). is_farther d (line_of (axis_of d) y.0.cell) (line_of (axis_of d) u)) o.at ∙ n in
@@ -210,7 +204,7 @@ module _ (listed : PreimagesAreListed) (keeps : StretchKeepsMembers) (collapsed 
     below = omega arith;
     member = holding_none t (patterns_pointed qs) n g m (all_pass (λ p. not (holds g p)) (patterns_pointed qs) (λ p i.
         let q = from_IsIn-map (λ (r : PointedPattern). r.pattern) qs i in
-        rw q.2 (not_false (holds g q.0.pattern) (false_from (holds g q.0.pattern) (λ f.
+        rw q.2 (not_from_false (holds g q.0.pattern) (false_from_ne_true (holds g q.0.pattern) (λ f.
         let z = pointed_when_held g q.0 (pointed q.0 q.1) f in
         farthest_none d g (pointed_points qs g) e z.0 (IsIn-filter (is_some_pointed g) z.1 (some_passes (λ r. is_pointed_by g r z.0) q.1 z.2)))))));
     undone = refl;
@@ -237,8 +231,8 @@ module _ (listed : PreimagesAreListed) (keeps : StretchKeepsMembers) (collapsed 
 
   none_pointed : (h : List Point) → list_all (λ p. not (holds h p)) (patterns_pointed qs) ≡ true → (z : Point) → IsIn z (pointed_points qs h) → ⊥
   none_pointed h e z i =
-      let w = one_passes (λ q. is_pointed_by h q z) qs (from_IsIn-filter (is_some_pointed h) h i).1 in
-      not_held (holds h w.0.pattern) (each_passes (λ p. not (holds h p)) (IsIn-map (λ (r : PointedPattern). r.pattern) w.1) e) (held_when_pointed h w.0 z w.2)
+      let w = which_passes (λ q. is_pointed_by h q z) qs (from_IsIn-filter (is_some_pointed h) h i).1 in
+      not_held (holds h w.0.pattern) (each_passes (λ p. not (holds h p)) e (IsIn-map (λ (r : PointedPattern). r.pattern) w.1)) (held_when_pointed h w.0 z w.2)
 
   from_child : (n i : ℕ) (h : List Point) → i < length child_list → MemberOf (slice_index_or child_list i t) n h → IsBrought n i h
   from_child n zero h s m =
@@ -246,7 +240,7 @@ module _ (listed : PreimagesAreListed) (keeps : StretchKeepsMembers) (collapsed 
       record { member = k.0; redone = ap (λ (o : Option Point). numbered_of h o) (farthest_of_none d h (pointed_points qs h) (none_pointed h k.1)) }
   from_child n (suc k) h s m =
       let l = length-map qs (placed t qs d) in
-      let a = at_place qs k (omega arith) in
+      let a = is_at qs k (omega arith) in
       let b = placed_member n k a.0 h a.1 (subst (λ (u : Tiles). MemberOf u n h) (at_map (placed t qs d) t a.1) m) in
       let e : from_image t (kind.Place qs d) (suc k, h) ≡ collapse (over_of t a.0) h = ap (λ (o : Option PointedPattern). option_map_or (λ q. collapse (around t (pointed_cell q)) h) o h) (at_get a.1) in
       let far = ap (λ (o : Option Point). numbered_of (collapse (over_of t a.0) h) o) b.far in
@@ -272,17 +266,17 @@ at_most_six n e = grind (arith, nat_tests)
 
 pointed_inside : (t : Tiles) (qs : List PointedPattern) → list_all (in_grid t) (patterns_pointed qs) ≡ true → (q : PointedPattern) → IsIn q qs → IsPointed q → IsCellOf t.width t.height (pointed_cell q)
 pointed_inside t qs e q i o =
-    (fits_grid_decides t.width t.height q.pattern).0 (each_passes (in_grid t) (IsIn-map (λ (r : PointedPattern). r.pattern) i) e) (point_of q.pattern q.index) (point_in_list q.pattern q.index o.place)
+    (fits_grid_decides t.width t.height q.pattern).0 (each_passes (in_grid t) e (IsIn-map (λ (r : PointedPattern). r.pattern) i)) (point_of q.pattern q.index) (point_in_list q.pattern q.index o.place)
 
 pub placements_carry_members : PreimagesAreListed → StretchKeepsMembers → CollapseIsGridded → PlacementsCarryMembers
 placements_carry_members listed keeps collapsed t tiling qs all d can =
-    let seven = and_true _ _ can in
-    let six = and_true _ (on_one_line (axis_of d) (map pointed_cell qs)) seven.0 in
-    let five = and_true _ (all_distinct (map pointed_cell qs)) six.0 in
-    let four = and_true _ (list_all (in_grid t) (patterns_pointed qs)) five.0 in
-    let three = and_true _ (nat_le t.height 6) four.0 in
-    let two = and_true _ (nat_le t.width 6) three.0 in
-    let pointed = λ (q : PointedPattern) (i : IsIn q qs). each_of IsPointed (recursion_from_All IsPointed qs all) i in
+    let seven = and_parts _ _ can in
+    let six = and_parts _ (on_one_line (axis_of d) (map pointed_cell qs)) seven.0 in
+    let five = and_parts _ (all_distinct (map pointed_cell qs)) six.0 in
+    let four = and_parts _ (list_all (in_grid t) (patterns_pointed qs)) five.0 in
+    let three = and_parts _ (nat_le t.height 6) four.0 in
+    let two = and_parts _ (nat_le t.width 6) three.0 in
+    let pointed = λ (q : PointedPattern) (i : IsIn q qs). of_each IsPointed (recursion_from_All IsPointed qs all) i in
     carries listed keeps collapsed t tiling qs pointed d (at_most_six t.width two.1) (at_most_six t.height three.1) (λ q i. pointed_inside t qs four.1 q i (pointed q i)) five.1
 
 -- the same as a kind that applies

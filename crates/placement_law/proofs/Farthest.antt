@@ -3,11 +3,11 @@ use Rattle.std.proofs.Common.{◌≡◌, ◌<◌, ◌≤◌, ℕ, Bool, true, fa
 use Rattle.std.specs.Prelude.{not, find, Some, None, cond}
 use Rattle.std.specs.List.{list_all}
 use Rattle.std.proofs.lemmas.Bool.Decides.{nat_tests}
-use Rattle.patterns.specs.Parts.{IsIn}
+use Rattle.std.proofs.lemmas.Bool.{not-true, not_from_false}
 use Rattle.lists.specs.Members.IsIn.{here, later}
-use Rattle.patterns.proofs.Booleans.{not_true, not_false}
+use Rattle.lists.proofs.Tests.{each_passes, all_pass}
+use Rattle.lists.specs.Members.{IsIn}
 use Rattle.gridded.specs.Grids.{Point}
-use Rattle.tiling_core.proofs.Deciding.{each_passes, all_pass}
 use Rattle.rule_kinds.specs.declared.kind.Direction.{Direction}
 use Rattle.rule_kinds.specs.declared.kind.Direction.TheVariants.{North, South, East, West}
 use Rattle.rule_kinds.specs.Kinds.{axis_of, is_farther}
@@ -129,10 +129,10 @@ abbrev pub NoneBeyond : Direction → List Point → List Point → Point → Ty
 NoneBeyond d g xs p = (z : Point) → IsIn z xs → is_farther d (rank_along (axis_of d) g z) (rank_along (axis_of d) g p) ≡ false
 
 passing : (d : Direction) (g xs : List Point) (p : Point) → NoneBeyond d g xs p → is_farthest d g xs p ≡ true
-passing d g xs p n = all_pass (λ q. not (is_farther d (rank_in d g q) (rank_in d g p))) xs (λ z i. not_false (is_farther d (rank_in d g z) (rank_in d g p)) (n z i))
+passing d g xs p n = all_pass (λ q. not (is_farther d (rank_in d g q) (rank_in d g p))) xs (λ z i. not_from_false (is_farther d (rank_in d g z) (rank_in d g p)) (n z i))
 
 passed : (d : Direction) (g xs : List Point) (p : Point) → is_farthest d g xs p ≡ true → NoneBeyond d g xs p
-passed d g xs p e z i = not_true (is_farther d (rank_in d g z) (rank_in d g p)) (each_passes (λ q. not (is_farther d (rank_in d g q) (rank_in d g p))) i e)
+passed d g xs p e z i = not-true (is_farther d (rank_in d g z) (rank_in d g p)) (each_passes (λ q. not (is_farther d (rank_in d g q) (rank_in d g p))) e i)
 
 pub farthest_tells : (d : Direction) (g xs : List Point) (p : Point) → farthest d g xs ≡ Some p → IsIn p xs × NoneBeyond d g xs p
 farthest_tells d g xs p e = let k = find_some (is_farthest d g xs) xs p e in (k.0, passed d g xs p k.1)

@@ -1,5 +1,3 @@
-pub mod Positions
-pub mod Thirds
 pub mod Splits
 pub mod Alone
 pub mod Marked

@@ -4,16 +4,16 @@ use Rattle.std.specs.Prelude.{◌&&◌, ◌==◌, map}
 use Rattle.std.specs.List.{list_any}
 use Rattle.std.proofs.lemmas.Bool.Decides.{Decides-eqb}
 use Rattle.std.proofs.lemmas.List.{length-map}
-use Rattle.patterns.specs.Parts.{IsIn, IsPart, parts}
+use Rattle.std.proofs.lemmas.Bool.{and_parts, and_from}
 use Rattle.lists.specs.Members.IsIn.{here, later}
+use Rattle.lists.proofs.Parts.{IsIn-parts, from_IsIn-parts, IsPart-map, from_IsPart-map, IsIn-IsPart}
+use Rattle.lists.proofs.Tests.{which_passes, some_passes}
+use Rattle.lists.specs.Members.{IsIn}
+use Rattle.lists.specs.Parts.{IsPart, parts}
+use Rattle.lists.proofs.Members.{IsIn-filter, from_IsIn-filter}
 use Rattle.patterns.specs.Occurs.{stands_as, is_match}
-use Rattle.patterns.proofs.Booleans.{and_true, both_true}
-use Rattle.patterns.proofs.Lists.{IsIn-filter, from_IsIn-filter}
-use Rattle.patterns.proofs.PartLaws.{IsPart-map, from_IsPart-map, IsIn-IsPart}
-use Rattle.patterns.proofs.Occurrences.{IsIn-parts, from_IsIn-parts}
 use Rattle.gridded.specs.declared.cell.Cell.{Cell}
 use Rattle.gridded.specs.Grids.{Point, letter_of, same_cell, holds, is_consistent, IsGridded}
-use Rattle.tiling_core.proofs.Deciding.{one_passes, some_passes}
 use Rattle.coord_maps.specs.declared.grid_map.GridMap.{GridMap}
 use Rattle.coord_maps.specs.LineMaps.{new_lines}
 use Rattle.coord_maps.specs.GridMaps.{old_cell, collapse, fits_new}
@@ -24,7 +24,7 @@ use Rattle.rule_kinds.specs.Pointeds.{PointedPattern}
 use Rattle.rule_kinds.specs.Kinds.{IsPointed, point_of, pointed_cell}
 use Rattle.rule_kinds.specs.Children.{lifts_pointed}
 use Rattle.rule_kinds.specs.Carry.{is_pointed_by}
-use Rattle.placement_law.proofs.Positions.{Distinct, letters_apart}
+use Rattle.gridded.proofs.Positions.{Distinct, letters_apart}
 use Rattle.gridded.proofs.Lifting.{lifted, fits-lifted, moved-lifted, consistent-lifted, lifted_fits, part_fits, fits_moved}
 use Rattle.gridded.proofs.Holding.{fits, held_tells, held_from, same_cell_tells}
 use Rattle.gridded.proofs.Consistent.{consistent_part}
@@ -42,8 +42,8 @@ point_of_map f (x ∷ c) (suc i) h = point_of_map f c i (omega arith)
 
 fits_parts : (x a : Point) (c p : List Point) → fits (x ∷ c) (a ∷ p) ≡ true → (same_cell x a ≡ true) × (fits c p ≡ true)
 fits_parts x a c p e =
-    let k = and_true (same_cell x a) (stands_as letter_of same_cell x a c p && fits c p) e in
-    (k.0, (and_true (stands_as letter_of same_cell x a c p) (fits c p) k.1).1)
+    let k = and_parts (same_cell x a) (stands_as letter_of same_cell x a c p && fits c p) e in
+    (k.0, (and_parts (stands_as letter_of same_cell x a c p) (fits c p) k.1).1)
 
 pub fits_length : (c p : List Point) → fits c p ≡ true → length c ≡ length p
 fits_length [] [] e = refl
@@ -74,15 +74,15 @@ pub record IsMarked (g : List Point) (q : PointedPattern) (p : Point) : Type 0 w
 
 pub marked_tells : (g : List Point) (q : PointedPattern) (p : Point) → is_pointed_by g q p ≡ true → IsMarked g q p
 marked_tells g q p e =
-    let k = one_passes (λ chosen. is_match letter_of same_cell chosen q.pattern && (point_of chosen q.index).letter == p.letter) (parts (length q.pattern) g) e in
-    let a = and_true (fits k.0 q.pattern) ((point_of k.0 q.index).letter == p.letter) k.2 in
+    let k = which_passes (λ chosen. is_match letter_of same_cell chosen q.pattern && (point_of chosen q.index).letter == p.letter) (parts (length q.pattern) g) e in
+    let a = and_parts (fits k.0 q.pattern) ((point_of k.0 q.index).letter == p.letter) k.2 in
     record { chosen = k.0; part = (from_IsIn-parts (length q.pattern) g k.1).0; fit = a.0; marks = (Decides-eqb (point_of k.0 q.index).letter p.letter).0 a.1 }
 
 pub marked_from : (g : List Point) (q : PointedPattern) (p : Point) → IsMarked g q p → is_pointed_by g q p ≡ true
 marked_from g q p k =
     some_passes (λ chosen. is_match letter_of same_cell chosen q.pattern && (point_of chosen q.index).letter == p.letter)
     (subst (λ n. IsIn k.chosen (parts n g)) (fits_length k.chosen q.pattern k.fit) (IsIn-parts k.part))
-    (both_true (fits k.chosen q.pattern) ((point_of k.chosen q.index).letter == p.letter) k.fit ((Decides-eqb (point_of k.chosen q.index).letter p.letter).1 k.marks))
+    (and_from (fits k.chosen q.pattern) ((point_of k.chosen q.index).letter == p.letter) k.fit ((Decides-eqb (point_of k.chosen q.index).letter p.letter).1 k.marks))
 
 within_chosen : (c : List Point) (q : PointedPattern) → IsPointed q → fits c q.pattern ≡ true → q.index < length c
 within_chosen c q k e = let l = fits_length c q.pattern e in let b = k.place in omega arith
@@ -138,7 +138,7 @@ module _ (listed : PreimagesAreListed) (m : GridMap) (h : List Point) where
   pub held_pointed : (q : PointedPattern) (test : Cell → Bool) → IsPointed q → list_any (λ g. holds h g) (lifts_pointed m test q) ≡ true
       → (z : Point) × IsIn z h × (test z.cell ≡ true) × (is_pointed_by (collapse m h) q z ≡ true)
   held_pointed q test o b =
-      let l = one_passes (λ g. holds h g) (lifts_pointed m test q) b in
+      let l = which_passes (λ g. holds h g) (lifts_pointed m test q) b in
       let a = from_IsIn-filter (λ g. test (point_of g q.index).cell) (preimages m q.pattern) l.1 in
       let c = held_tells h l.0 l.2 in
       let pre = (listed m q.pattern l.0 o.gridded).0 a.0 in

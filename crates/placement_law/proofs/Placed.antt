@@ -3,10 +3,11 @@ use Rattle.std.proofs.Common.{◌≡◌, ◌<◌, ◌≤◌, ◌+◌, ◌-◌, �
 use Rattle.std.specs.Prelude.{◌&&◌, not, map, flat_map}
 use Rattle.std.specs.List.{list_all, list_any}
 use Rattle.std.proofs.lemmas.List.Folds.{list_all-append}
-use Rattle.patterns.specs.Parts.{IsIn}
+use Rattle.std.proofs.lemmas.Bool.{false_from_ne_true, and_parts, and_from, not_from_false}
 use Rattle.lists.specs.Members.IsIn.{here}
-use Rattle.patterns.proofs.Booleans.{and_true, both_true, not_false}
-use Rattle.patterns.proofs.NoRepeat.{IsIn-flat_map, from_IsIn-flat_map}
+use Rattle.lists.proofs.Tests.{each_passes, all_pass, which_passes, some_passes}
+use Rattle.lists.specs.Members.{IsIn}
+use Rattle.lists.proofs.Members.{IsIn-flat_map, from_IsIn-flat_map}
 use Rattle.gridded.specs.declared.cell.Cell.{Cell}
 use Rattle.gridded.specs.Grids.{Point, holds}
 use Rattle.gridded.specs.Orders.{cell_eq}
@@ -15,9 +16,8 @@ use Rattle.gridded.specs.Laws.{IsGriddedOf}
 use Rattle.tiling_core.specs.Tiles.{Tiles, IsTiling, is_member}
 use Rattle.tiling_core.specs.Carried.{MemberOf}
 use Rattle.gridded.specs.Small.{point_at}
-use Rattle.tiling_core.proofs.Deciding.{is_member_decides, fits_grid_decides, each_passes, all_pass, one_passes, some_passes, false_from, not_held}
+use Rattle.tiling_core.proofs.Deciding.{is_member_decides, fits_grid_decides, not_held}
 use Rattle.tiling_core.proofs.Ordered.{is_member-also}
-use Rattle.coord_maps.specs.declared.grid_map.GridMap.{GridMap}
 use Rattle.coord_maps.specs.GridMaps.{IsGridMap, collapse, fits_new}
 use Rattle.coord_maps.specs.Stretches.{stretch}
 use Rattle.coord_maps.specs.Laws.{PreimagesAreListed, StretchKeepsMembers, CollapseIsGridded}
@@ -26,9 +26,9 @@ use Rattle.rule_kinds.specs.declared.kind.Direction.{Direction}
 use Rattle.rule_kinds.specs.Kinds.{IsPointed}
 use Rattle.rule_kinds.specs.Children.{around, over_of, middle_of, is_beyond, alone_in, lifts_pointed, placed}
 use Rattle.rule_kinds.specs.Carry.{is_pointed_by}
-use Rattle.placement_law.proofs.Splits.{cell_inside}
 use Rattle.placement_law.proofs.Alone.{IsOnly, avoids_alone, only_from}
 use Rattle.gridded.proofs.Pairs.{holds_its_point}
+use Rattle.gridded.proofs.Moved.{cell_inside}
 use Rattle.placement_law.proofs.Marked.{pointed_held, held_pointed}
 
 -- what a member h of the child of q is, where g is its collapse
@@ -73,19 +73,19 @@ module _ (listed : PreimagesAreListed) (keeps : StretchKeepsMembers) (collapsed 
   placed_from q i map n h z k m p = record {
     gridded = k;
     member = (is_member_decides (placed t qs d q) h).0 (placed_test t qs d q h ∙
-        both_true (is_member (wide_of t q) h) _ (keeps (over_of t q) t h map tiling (record { columns = refl; rows = refl }) k.consistent (fits_wide q n h k) ∙ m)
-        (both_true (none_held h (alone_in (wide_of t q) (middle_of q) ++ beyond_lifts t qs d q)) _
+        and_from (is_member (wide_of t q) h) _ (keeps (over_of t q) t h map tiling (record { columns = refl; rows = refl }) k.consistent (fits_wide q n h k) ∙ m)
+        (and_from (none_held h (alone_in (wide_of t q) (middle_of q) ++ beyond_lifts t qs d q)) _
         (list_all-append (λ p. not (holds h p)) (alone_in (wide_of t q) (middle_of q)) (beyond_lifts t qs d q)
-        ∙ both_true (none_held h (alone_in (wide_of t q) (middle_of q))) (none_held h (beyond_lifts t qs d q)) (avoids_alone (wide_of t q) (middle_of q) h z p.only) no_lift_beyond)
-        (both_true (some_held h (point_at (middle_of q) ∷ [])) _ (some_passes (λ p. holds h p) (here {xs = []}) (holds_its_point h z (middle_of q) p.only.there p.only.at))
-        (both_true (some_held h (own_lifts t q)) true
+        ∙ and_from (none_held h (alone_in (wide_of t q) (middle_of q))) (none_held h (beyond_lifts t qs d q)) (avoids_alone (wide_of t q) (middle_of q) h z p.only) no_lift_beyond)
+        (and_from (some_held h (point_at (middle_of q) ∷ [])) _ (some_passes (λ p. holds h p) (here {xs = []}) (holds_its_point h z (middle_of q) p.only.there p.only.at))
+        (and_from (some_held h (own_lifts t q)) true
         (pointed_held listed (over_of t q) h q (cell_eq (middle_of q)) z (pointed q i) k.distinct k.consistent (fits_wide q n h k) p.only.there ((cell_eq_decides (middle_of q) z.cell).1 (sym p.only.at)) p.marked) refl))));
   }
     where
       no_lift_beyond : none_held h (beyond_lifts t qs d q) ≡ true
       no_lift_beyond =
           all_pass (λ p. not (holds h p)) (beyond_lifts t qs d q)
-          (λ g j. not_false (holds h g) (false_from (holds h g) (λ e.
+          (λ g j. not_from_false (holds h g) (false_from_ne_true (holds h g) (λ e.
           let r = from_IsIn-flat_map (lifts_pointed (over_of t q) (is_beyond d (middle_of q))) qs j in
           let y = held_pointed listed (over_of t q) h r.0 (is_beyond d (middle_of q)) (pointed r.0 r.1) (some_passes (λ w. holds h w) r.2 e) in
           let f : false ≡ true = sym (p.none_beyond r.0 r.1 y.0 y.1 y.3) ∙ y.2 in cc)))
@@ -96,11 +96,11 @@ module _ (listed : PreimagesAreListed) (keeps : StretchKeepsMembers) (collapsed 
   placed_tells q i map n h m =
       let e : is_member (placed t qs d q) h ≡ true = (is_member_decides (placed t qs d q) h).1 m.member in
       let fit = fits_wide q n h m.gridded in
-      let a = and_true (is_member (wide_of t q) h) _ (sym (placed_test t qs d q h) ∙ e) in
-      let b = and_true (none_held h (alone_in (wide_of t q) (middle_of q) ++ beyond_lifts t qs d q)) _ a.1 in
-      let c = and_true (some_held h (point_at (middle_of q) ∷ [])) _ b.1 in
-      let own = (and_true (some_held h (own_lifts t q)) true c.1).0 in
-      let none = and_true (none_held h (alone_in (wide_of t q) (middle_of q))) (none_held h (beyond_lifts t qs d q)) (sym (list_all-append (λ p. not (holds h p)) (alone_in (wide_of t q) (middle_of q)) (beyond_lifts t qs d q)) ∙ b.0) in
+      let a = and_parts (is_member (wide_of t q) h) _ (sym (placed_test t qs d q h) ∙ e) in
+      let b = and_parts (none_held h (alone_in (wide_of t q) (middle_of q) ++ beyond_lifts t qs d q)) _ a.1 in
+      let c = and_parts (some_held h (point_at (middle_of q) ∷ [])) _ b.1 in
+      let own = (and_parts (some_held h (own_lifts t q)) true c.1).0 in
+      let none = and_parts (none_held h (alone_in (wide_of t q) (middle_of q))) (none_held h (beyond_lifts t qs d q)) (sym (list_all-append (λ p. not (holds h p)) (alone_in (wide_of t q) (middle_of q)) (beyond_lifts t qs d q)) ∙ b.0) in
       let z = held_pointed listed (over_of t q) h q (cell_eq (middle_of q)) (pointed q i) own in
       let at : z.0.cell ≡ middle_of q = sym ((cell_eq_decides (middle_of q) z.0.cell).0 z.2) in (
         record {
@@ -112,9 +112,9 @@ module _ (listed : PreimagesAreListed) (keeps : StretchKeepsMembers) (collapsed 
           record {
             only = only_from (wide_of t q) (middle_of q) h m.gridded.distinct (λ y j. cell_inside (t.width + 3 - 1) (t.height + 3 - 1) h m.gridded.in_grid y j) none.0 z.0 z.1 at;
             marked = z.3;
-            none_beyond = λ r j y l f. false_from (is_beyond d (middle_of q) y.cell) (λ g.
-                let w = one_passes (λ p. holds h p) (lifts_pointed (over_of t q) (is_beyond d (middle_of q)) r) (pointed_held listed (over_of t q) h r (is_beyond d (middle_of q)) y (pointed r j) m.gridded.distinct m.gridded.consistent fit l g f) in
-                not_held (holds h w.0) (each_passes (λ p. not (holds h p)) (IsIn-flat_map (lifts_pointed (over_of t q) (is_beyond d (middle_of q))) j w.1) none.1) w.2);
+            none_beyond = λ r j y l f. false_from_ne_true (is_beyond d (middle_of q) y.cell) (λ g.
+                let w = which_passes (λ p. holds h p) (lifts_pointed (over_of t q) (is_beyond d (middle_of q)) r) (pointed_held listed (over_of t q) h r (is_beyond d (middle_of q)) y (pointed r j) m.gridded.distinct m.gridded.consistent fit l g f) in
+                not_held (holds h w.0) (each_passes (λ p. not (holds h p)) none.1 (IsIn-flat_map (lifts_pointed (over_of t q) (is_beyond d (middle_of q))) j w.1)) w.2);
           },
         ),
       )

@@ -1,37 +1,33 @@
 -- A member split at one of its points.
-use Rattle.std.proofs.Common.{◌≡◌, ◌<◌, ◌≤◌, ◌+◌, ◌-◌, ℕ, true, List, [], ◌∷◌, refl, sym, ap, ◌∙◌, subst, arith}
+use Rattle.std.proofs.Common.{◌≡◌, ◌<◌, ◌≤◌, ◌+◌, ◌-◌, ℕ, true, List, refl, sym, ap, ◌∙◌, subst, arith}
 use Rattle.std.specs.Prelude.{map}
 use Rattle.std.specs.List.{AllByRecursion}
 use Rattle.std.proofs.lemmas.List.{length-map}
-use Rattle.patterns.specs.Parts.{IsIn}
-use Rattle.lists.specs.Members.IsIn.{here, later}
+use Rattle.lists.specs.Members.{IsIn}
+use Rattle.lists.proofs.Members.{from_IsIn-map}
+use Rattle.lists.proofs.Maps.{map_back}
 use Rattle.patterns.specs.Words.{has_no_repeats}
-use Rattle.patterns.proofs.Lists.{from_IsIn-map}
 use Rattle.gridded.specs.declared.axis.Axis.{Axis}
 use Rattle.gridded.specs.declared.axis.Axis.TheVariants as axis
 use Rattle.gridded.specs.declared.cell.Cell.{Cell}
 use Rattle.gridded.specs.Axes.{line_of, rank_along}
 use Rattle.gridded.specs.Grids.{Point, is_consistent}
-use Rattle.gridded.specs.Orders.{cells_of}
 use Rattle.gridded.specs.Moved.{relocated, moved}
-use Rattle.gridded.specs.Laws.{IsCellOf, IsGriddedOf}
+use Rattle.gridded.specs.Laws.{IsGriddedOf}
+use Rattle.gridded.proofs.Moved.{letters_relocated, cell_inside, relocated_inside}
 use Rattle.tiling_core.specs.Tiles.{Tiles}
 use Rattle.coord_maps.specs.LineMaps.{part_at}
 use Rattle.coord_maps.specs.GridMaps.{collapse, old_cell}
 use Rattle.rule_kinds.specs.Children.{around, middle}
 use Rattle.rule_kinds.specs.Carry.{split_cell, split}
-use Rattle.placement_law.proofs.Positions.{pos, Distinct, IsAlong, along, consistent_along, letters_relocated, pos_relocated}
-use Rattle.placement_law.proofs.Thirds.{old_of_part, part_rises, part_in_middle, part_of_itself, part_within}
+use Rattle.gridded.proofs.Positions.{pos, Distinct, IsAlong, along, consistent_along, pos_relocated}
+use Rattle.coord_maps.proofs.Thirds.{old_of_part, part_rises, part_in_middle, part_of_itself, part_within}
 
 pub line_of_split : (a : Axis) (g : List Point) (p q : Point) → line_of a (split_cell g p q) ≡ part_at (line_of a p.cell) (rank_along a g q) (rank_along a g p) (line_of a q.cell)
 line_of_split axis.Column g p q = refl
 line_of_split axis.Row g p q = refl
 
 -- ---- the collapse of the split is the member
-map_back : {X Y : Type 0} (f : X → Y) (b : Y → X) → ((x : X) → b (f x) ≡ x) → (xs : List X) → map b (map f xs) ≡ xs
-map_back f b e [] = refl
-map_back f b e (x ∷ xs) = let first = e x in let rest = map_back f b e xs in λ i. first i ∷ rest i
-
 point_back : (t : Tiles) (g : List Point) (p q : Point) → moved (old_cell (around t p.cell)) (relocated (split_cell g p) q) ≡ q
 point_back t g p q =
     let ex = old_of_part t.width p.cell.x (rank_along axis.Column g q) (rank_along axis.Column g p) q.cell.x in
@@ -39,7 +35,7 @@ point_back t g p q =
     λ i. record { letter = q.letter; cell = record { x = ex i; y = ey i } }
 
 pub collapse_of_split : (t : Tiles) (g : List Point) (p : Point) → collapse (around t p.cell) (split g p) ≡ g
-collapse_of_split t g p = map_back (relocated (split_cell g p)) (moved (old_cell (around t p.cell))) (point_back t g p) g
+collapse_of_split t g p = map_back (moved (old_cell (around t p.cell))) (relocated (split_cell g p)) g (λ q _. point_back t g p q)
 
 -- ---- the split is gridded
 pub relocated_consistent : (F : Point → Cell) (g : List Point) → Distinct g
@@ -65,15 +61,6 @@ relocated_consistent F g e h v =
     let ey : y.cell.y ≡ (F a.0).y = ap (λ (w : Point). w.cell.y) a.2 in
     let ez : z.cell.y ≡ (F b.0).y = ap (λ (w : Point). w.cell.y) b.2 in
     omega (arith, m, ey, ez))
-
-pub cell_inside : (w h : ℕ) (g : List Point) → AllByRecursion (λ c. IsCellOf w h c) (cells_of g) → (q : Point) → IsIn q g → IsCellOf w h q.cell
-cell_inside w h [] k q i = elim i [ ]
-cell_inside w h (x ∷ g) k _ here = k.0
-cell_inside w h (x ∷ g) k q (later _ i) = cell_inside w h g k.1 q i
-
-relocated_inside : (w h : ℕ) (F : Point → Cell) (g : List Point) → ((q : Point) → IsIn q g → IsCellOf w h (F q)) → AllByRecursion (λ c. IsCellOf w h c) (cells_of (map (relocated F) g))
-relocated_inside w h F [] k = tt
-relocated_inside w h F (x ∷ g) k = (k x here, relocated_inside w h F g (λ q i. k q (later x i)))
 
 ranks_at_most : (a b : ℕ) → a < b → a ≤ b
 ranks_at_most a b h = omega arith

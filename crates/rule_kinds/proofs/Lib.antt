@@ -5,7 +5,6 @@ pub mod ChildRows
 pub mod LawRows
 pub mod PlaceRows
 pub mod TriedRows
-pub mod Joined
-pub mod ListTests
 pub mod Applied
 pub mod Applying
+pub mod Closures

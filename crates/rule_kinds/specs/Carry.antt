@@ -1,8 +1,7 @@
 -- What a rule makes of a member, and the way back.
-use Rattle.std.specs.Prelude.{ℕ, zero, suc, slice_get, Bool, not, ◌&&◌, ◌||◌, ◌==◌, ◌+◌, nat_lt, List, map, filter, flat_map, find, count_by, length, Option, None, if◌then◌else◌}
+use Rattle.std.specs.Prelude.{ℕ, zero, suc, slice_get, Bool, not, ◌&&◌, ◌||◌, ◌==◌, ◌+◌, nat_lt, List, map, filter, flat_map, find, length, Option, None, if◌then◌else◌}
 use Rattle.std.specs.List.{list_all, list_any, position_or_len}
 use Rattle.std.specs.Option.{option_map_or}
-use Rattle.patterns.specs.Parts.{parts}
 use Rattle.patterns.specs.Occurs.{is_match}
 use Rattle.gridded.specs.declared.axis.Axis.{Axis}
 use Rattle.gridded.specs.declared.axis.Axis.TheVariants as axis
@@ -25,6 +24,7 @@ use Rattle.rule_kinds.specs.declared.kind.Kind.TheVariants as kind
 use Rattle.rule_kinds.specs.Kinds.{pointed_cell, point_of, axis_of, is_farther}
 use Rattle.rule_kinds.specs.Children.{over_of, halved}
 use Rattle.rule_kinds.specs.Conditions.{all_of}
+use Rattle.lists.specs.Parts.{parts}
 
 -- a member of child number `child`
 pub record Image : Type 0 where

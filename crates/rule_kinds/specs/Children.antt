@@ -10,12 +10,13 @@ use Rattle.gridded.specs.Grids.{Point}
 use Rattle.gridded.specs.Orders.{cell_eq}
 use Rattle.tiling_core.specs.Tiles.{Tiles, tiling_of}
 use Rattle.gridded.specs.Small.{point_at, rising, falling}
+use Rattle.gridded.specs.Parts.{lies_in}
 use Rattle.tiling_core.specs.Patterns.{also}
 use Rattle.coord_maps.specs.declared.grid_map.GridMap.{GridMap}
 use Rattle.coord_maps.specs.LineMaps.{Cut}
 use Rattle.coord_maps.specs.Preimages.{preimages}
 use Rattle.coord_maps.specs.Stretches.{stretch}
-use Rattle.rule_kinds.specs.Lines.{on_line, lines, lies_in, cells_of_grid, active_on}
+use Rattle.rule_kinds.specs.Lines.{on_line, lines, cells_of_grid, active_on}
 use Rattle.rule_kinds.specs.Pointeds.{PointedPattern}
 use Rattle.rule_kinds.specs.declared.kind.Direction.{Direction}
 use Rattle.rule_kinds.specs.declared.kind.Kind.{Kind}

@@ -5,8 +5,8 @@ use Rattle.std.specs.Cmp.Lexicographic.{pointwise, slice_cmp}
 use Rattle.gridded.specs.declared.axis.Axis.{Axis}
 use Rattle.gridded.specs.declared.axis.Axis.TheVariants as axis
 use Rattle.gridded.specs.declared.cell.Cell.{Cell}
-use Rattle.gridded.specs.Grids.{Point, gridded_of}
-use Rattle.gridded.specs.Orders.{cell_eq, cell_cmp, gridded_eq, gridded_cmp}
+use Rattle.gridded.specs.Grids.{Point}
+use Rattle.gridded.specs.Orders.{cell_eq, cell_cmp, gridded_eq}
 use Rattle.sequences.specs.Ascending.{in_order}
 use Rattle.tiling_core.specs.Tiles.{Tiles}
 use Rattle.tiling_core.specs.Measures.{weight}
@@ -14,7 +14,6 @@ use Rattle.gridded.specs.Small.{point_at}
 use Rattle.tiling_core.specs.Patterns.{forbids, active_cells, requires_list}
 use Rattle.gridded.specs.Places.{touches}
 use Rattle.gridded.specs.Axes.{shares_line}
-use Rattle.steps.specs.Steps.{is_nil}
 use Rattle.rule_kinds.specs.Lines.{lines, active_on, numbers_below}
 use Rattle.rule_kinds.specs.Pointeds.{PointedPattern}
 use Rattle.rule_kinds.specs.declared.kind.Direction.{Direction}
@@ -24,6 +23,7 @@ use Rattle.rule_kinds.specs.declared.kind.Kind.TheVariants as kind
 use Rattle.rule_kinds.specs.Kinds.{cut_kind}
 use Rattle.emptiness.specs.Inferable.{inferred}
 use Rattle.rule_kinds.specs.Conditions.{before, bundles, applies}
+use Rattle.lists.specs.Members.{is_nil}
 
 -- the letters that are on
 pub record Packs : Type 0 where
@@ -36,7 +36,6 @@ pub record Packs : Type 0 where
   pub n : Bool
 
 -- ---- Closures: the least set of some cells that has c, and with each cell also those to which it is linked
-
 abbrev pub grown : (Cell → Cell → Bool) → List Cell → List Cell → List Cell
 grown link cells set = filter (λ d. list_any (λ c. cell_eq c d || link c d) set) cells
 
@@ -48,7 +47,6 @@ abbrev pub closure : (Cell → Cell → Bool) → List Cell → Cell → List Ce
 closure link cells c = grown_times (length cells) link cells (c ∷ [])
 
 -- ---- The finest factoring
-
 -- whether two cells are tied directly: they share a line, or the points of one bundle
 abbrev pub is_linked : Tiles → Cell → Cell → Bool
 is_linked t c d = shares_line c d || list_any (λ bundle. list_any (touches (cell_eq c)) bundle && list_any (touches (cell_eq d)) bundle) (bundles t)
@@ -57,7 +55,6 @@ abbrev pub finest_factoring : Tiles → List (List Cell)
 finest_factoring t = in_order (slice_cmp cell_cmp) (map (closure (is_linked t) (active_cells t)) (active_cells t))
 
 -- ---- The least cuts
-
 -- each item where it stands first
 abbrev pub each_once : {X : Type 0} → (X → X → Bool) → List X → List X
 each_once same [] = []
@@ -77,7 +74,6 @@ abbrev pub cuts : Tiles → List Kind
 cuts t = cuts_along axis.Row t ++ cuts_along axis.Column t
 
 -- ---- Insertions and placements
-
 abbrev pub insertions : Tiles → List Kind
 insertions t = map (λ c. kind.Insert (point_at c)) (filter (λ c. not (requires_list t (point_at c ∷ []))) (active_cells t))
 
@@ -118,7 +114,6 @@ placements t packs =
     map (λ (p : List PointedPattern × Direction). kind.Place p.0 p.1) (each_once same_placement (when packs.r (line_placements axis.Row North South t) ++ when packs.c (line_placements axis.Column East West t) ++ when packs.p (point_placements t)))
 
 -- ---- The list of kinds: that of the first case
-
 abbrev pub first_that_is : {X : Type 0} → List (List X) → List X
 first_that_is [] = []
 first_that_is ([] ∷ lists) = first_that_is lists

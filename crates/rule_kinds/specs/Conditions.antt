@@ -7,26 +7,27 @@ use Rattle.gridded.specs.declared.axis.Axis.TheVariants as axis
 use Rattle.gridded.specs.declared.cell.Cell.{Cell}
 use Rattle.gridded.specs.Axes.{line_of, shares_line}
 use Rattle.gridded.specs.CellSets.{is_among as has_cell}
-use Rattle.gridded.specs.Grids.{Point, holds}
+use Rattle.gridded.specs.Grids.{Point}
 use Rattle.gridded.specs.Orders.{cell_eq, cell_cmp, gridded_eq, gridded_cmp}
 use Rattle.sequences.specs.Ascending.{in_order}
-use Rattle.tiling_core.specs.Tiles.{Tiles, count}
+use Rattle.tiling_core.specs.Tiles.{Tiles}
 use Rattle.tiling_core.specs.Measures.{weight}
 use Rattle.gridded.specs.Small.{rising, falling}
-use Rattle.tiling_core.specs.Patterns.{forbids, active_cells, also}
+use Rattle.gridded.specs.Parts.{lies_in}
+use Rattle.tiling_core.specs.Patterns.{forbids, active_cells}
 use Rattle.tiling_core.specs.Roots.{unit_tiling, point_tiling}
 use Rattle.tiling_core.specs.Same.{tiles_eq}
 use Rattle.coord_maps.specs.declared.grid_map.GridMap.{GridMap}
 use Rattle.coord_maps.specs.Preimages.{preimages}
-use Rattle.steps.specs.Steps.{is_nil}
 use Rattle.emptiness.specs.Inferable.{has_no_member, is_inferable}
-use Rattle.rule_kinds.specs.Lines.{lines, lies_in, in_grid, is_active, active_on, numbers_below}
+use Rattle.rule_kinds.specs.Lines.{lines, in_grid, active_on}
 use Rattle.rule_kinds.specs.Pointeds.{PointedPattern}
 use Rattle.rule_kinds.specs.declared.kind.Direction.{Direction}
 use Rattle.rule_kinds.specs.declared.kind.Kind.{Kind}
 use Rattle.rule_kinds.specs.declared.kind.Kind.TheVariants as kind
 use Rattle.rule_kinds.specs.Kinds.{pointed_cell, axis_of}
 use Rattle.rule_kinds.specs.Children.{around, halved, patterns_pointed}
+use Rattle.lists.specs.Members.{is_nil}
 
 -- the lists, one after another
 abbrev pub all_of : {X : Type 0} → List (List X) → List X

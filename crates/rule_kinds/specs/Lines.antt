@@ -1,11 +1,10 @@
 -- Columns and rows alike, and words on the cells and small patterns of a tiling.
 use Rattle.std.specs.Prelude.{ℕ, Bool, not, ◌==◌, List, filter}
-use Rattle.std.specs.List.{range_with_len, list_all}
+use Rattle.std.specs.List.{range_with_len}
 use Rattle.gridded.specs.declared.axis.Axis.{Axis}
 use Rattle.gridded.specs.declared.cell.Cell.{Cell}
 use Rattle.gridded.specs.Axes.{line_of, with_line}
 use Rattle.gridded.specs.Grids.{Point, cells_in}
-use Rattle.gridded.specs.Orders.{cells_of}
 use Rattle.tiling_core.specs.Tiles.{Tiles}
 use Rattle.gridded.specs.Places.{fits_grid}
 use Rattle.tiling_core.specs.Patterns.{active_cells, forbids}
@@ -19,9 +18,6 @@ lines a t = line_of a (sides t)
 -- the cell at the same place of another line
 abbrev pub on_line : Axis → (ℕ → ℕ) → Cell → Cell
 on_line a f c = with_line a (f (line_of a c)) c
-
-abbrev pub lies_in : (Cell → Bool) → List Point → Bool
-lies_in test g = list_all test (cells_of g)
 
 abbrev pub in_grid : Tiles → List Point → Bool
 in_grid t g = fits_grid t.width t.height g

@@ -2,14 +2,13 @@ ghost use Rattle.std.specs.Prelude.{◌≡◌, ◌&&◌, nat_le, not, IfOk};
 ghost use Rattle.tiling_core.specs.Measures.{weight};
 ghost use Rattle.tiling_core.specs.Roots.{unit_tiling, point_tiling};
 ghost use Rattle.tiling_core.specs.Same.{tiles_eq};
-ghost use Rattle.steps.specs.Steps.{is_nil};
 ghost use Rattle.rule_kinds.specs.Lines.{in_grid};
 ghost use Rattle.emptiness.specs.Inferable.{has_no_member};
 ghost use Rattle.rule_kinds.specs.Built.{applies_now};
+ghost use Rattle.lists.specs.Members.{is_nil};
 
 use crate::inferral::can_be_inferred;
 use crate::kind::Kind;
-use crate::singles::{point_tiling, unit_tiling};
 use emptiness::{EmptyFault, is_empty, members_within_weight};
 use gridded::Gridded;
 use std::alloc::{AllocError, Global};
@@ -19,7 +18,7 @@ use tiling_core::Tiling;
 fn is_unit(alloc: Global, tiling: &Tiling) -> Result<bool, AllocError>
     ensures { IfOk result (λ same. same ≡ tiles_eq tiling.now unit_tiling) }
 {
-    let unit = unit_tiling(alloc)?;
+    let unit = Tiling::unit(alloc)?;
     Ok(*tiling == unit)
 }
 
@@ -27,7 +26,7 @@ fn is_unit(alloc: Global, tiling: &Tiling) -> Result<bool, AllocError>
 fn is_point(alloc: Global, tiling: &Tiling) -> Result<bool, AllocError>
     ensures { IfOk result (λ same. same ≡ tiles_eq tiling.now point_tiling) }
 {
-    let point = point_tiling(alloc)?;
+    let point = Tiling::point(alloc)?;
     Ok(*tiling == point)
 }
 

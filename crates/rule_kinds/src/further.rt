@@ -10,7 +10,7 @@ use tiling_core::Tiling;
 
 /// The tiling with further obstructions and requirement lists, whose cells lie in its grid. The refusal is want
 /// of memory, for which a list of 268,435,456 items or more counts.
-#[tactic(auto, using(crate::proofs::Joined::joined))]
+#[tactic(auto, using(tiling_core::proofs::Joined::joined))]
 pub fn also(
     alloc: Global,
     tiling: &Tiling,
@@ -30,7 +30,7 @@ pub fn also(
 }
 
 /// The tiling with a further list of one pattern, which lies in its grid. The refusal is want of memory.
-#[tactic(auto, using(crate::proofs::Joined::single))]
+#[tactic(auto, using(tiling_core::proofs::Joined::single))]
 pub fn requiring(alloc: Global, tiling: &Tiling, pattern: Gridded) -> Result<Tiling, AllocError>
     requires { in_grid tiling.now pattern ≡ true }
     ensures { IfOk result (λ t. t ≡ also tiling.now [] ((pattern ∷ []) ∷ [])) }

@@ -1,9 +1,9 @@
 ghost use Rattle.std.specs.Prelude.{◌≡◌, ◌≤◌, ◌&&◌, nat_le, not, IfOk};
 ghost use Rattle.std.specs.List.{list_all};
-ghost use Rattle.steps.specs.Steps.{is_nil};
 ghost use Rattle.tiling_core.specs.Measures.{weight};
 ghost use Rattle.emptiness.specs.Inferable.{is_inferable};
 ghost use Rattle.rule_kinds.specs.Conditions.{ascends};
+ghost use Rattle.lists.specs.Members.{is_nil};
 
 use emptiness::is_inferable;
 use gridded::Gridded;

@@ -9,7 +9,6 @@ mod inferral;
 mod kind;
 mod pointed;
 mod reading;
-mod singles;
 
 pub use condition::applies;
 pub use fault::RawFault;

@@ -3,9 +3,7 @@ use Rattle.std.proofs.Common.{◌≡◌, ◌<◌, ◌≤◌, ℕ, Bool, true, fa
 use Rattle.std.specs.Prelude.{◌&&◌, ◌||◌, ◌==◌, not}
 use Rattle.std.specs.List.{list_any}
 use Rattle.std.proofs.lemmas.Bool.Decides.{Decides-eqb}
-use Rattle.patterns.specs.Parts.{IsIn}
-use Rattle.patterns.proofs.Booleans.{and_true, both_true}
-use Rattle.patterns.proofs.Lists.{IsIn-filter, from_IsIn-filter}
+use Rattle.std.proofs.lemmas.Bool.{and_parts as and_true, and_from as both_true}
 use Rattle.gridded.specs.declared.axis.Axis.{Axis}
 use Rattle.gridded.specs.declared.axis.Axis.TheVariants.{Column, Row}
 use Rattle.gridded.specs.declared.cell.Cell.{Cell}
@@ -19,6 +17,8 @@ use Rattle.steps.specs.Steps.{sides, is_isolated}
 use Rattle.steps.proofs.ListTests.{which_passes, some_passes}
 use Rattle.steps.proofs.OnLine.{on_its_line, cell_on_is_in, cell_on_is_on}
 use Rattle.gridded.proofs.GriddedLists.{from_IsIn-cells_in}
+use Rattle.lists.specs.Members.{IsIn}
+use Rattle.lists.proofs.Members.{IsIn-filter, from_IsIn-filter}
 
 -- another cell on the line of c
 abbrev pub is_other_on : Axis → Cell → Cell → Bool

@@ -5,10 +5,11 @@ use Rattle.std.specs.List.{AllZip}
 use Rattle.std.proofs.lemmas.Bool.Decides.{Decides-eqb}
 use Rattle.std.proofs.lemmas.List.{length-map}
 use Rattle.std.proofs.lemmas.List.Sums.{sum_by-cons}
-use Rattle.patterns.specs.Parts.{IsIn, IsPart}
 use Rattle.lists.specs.Members.IsIn.{here, later}
-use Rattle.patterns.proofs.Booleans.{same_test}
-use Rattle.patterns.proofs.PartLaws.{IsPart-itself, filter-IsPart}
+use Rattle.lists.specs.Members.{IsIn}
+use Rattle.lists.specs.Parts.{IsPart}
+use Rattle.lists.proofs.Tests.{same_test}
+use Rattle.lists.proofs.Parts.{IsPart-itself, filter-IsPart}
 use Rattle.patterns.proofs.Occurrences.{match_from, match_tells, Matches}
 use Rattle.patterns.proofs.Standard.{standardised_same_order}
 use Rattle.patterns.specs.Ranks.{standardised}

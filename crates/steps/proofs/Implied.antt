@@ -5,10 +5,11 @@ use Rattle.std.specs.List.{list_any}
 use Rattle.std.specs.List.Sorted.{IsStrictlySortedBy}
 use Rattle.std.specs.Cmp.Lexicographic.{pointwise, pointwise_decides}
 use Rattle.std.proofs.lemmas.List.Sums.{sum_by-cons}
-use Rattle.patterns.proofs.Booleans.{and_true, both_true, not_true, not_false, same_test}
-use Rattle.patterns.proofs.Lists.{from_IsIn-filter, IsIn-filter}
-use Rattle.patterns.specs.Parts.{IsIn}
+use Rattle.std.proofs.lemmas.Bool.{and_parts as and_true, and_from as both_true, not-true as not_true, not_from_false as not_false}
 use Rattle.lists.specs.Members.IsIn.{here, later}
+use Rattle.lists.proofs.Tests.{same_test}
+use Rattle.lists.proofs.Members.{from_IsIn-filter, IsIn-filter}
+use Rattle.lists.specs.Members.{IsIn}
 use Rattle.gridded.specs.Grids.{Point, holds}
 use Rattle.gridded.specs.Orders.{gridded_eq, gridded_cmp}
 use Rattle.gridded.specs.OrderLaws.{gridded_eq_decides, gridded_total, gridded_exact}

@@ -3,9 +3,9 @@ use Rattle.std.proofs.Common.{◌≡◌, ℕ, true, List, [], ◌∷◌, sym, su
 use Rattle.std.specs.Prelude.{map, not, All}
 use Rattle.std.specs.List.{filter, AllByRecursion}
 use Rattle.std.proofs.lemmas.List.Elements.{All-from_recursion, All-filter}
-use Rattle.patterns.specs.Parts.{IsIn}
 use Rattle.lists.specs.Members.IsIn.{here, later}
-use Rattle.patterns.proofs.Lists.{from_IsIn-map}
+use Rattle.lists.specs.Members.{IsIn}
+use Rattle.lists.proofs.Members.{from_IsIn-map}
 use Rattle.gridded.specs.Grids.{Point}
 use Rattle.tiling_core.specs.Tiles.{IsInGrid}
 use Rattle.gridded.specs.Places.{fits_grid}

@@ -7,12 +7,11 @@ use Rattle.std.proofs.lemmas.List.{take-append-drop, take-append-le, take_more, 
 use Rattle.std.proofs.lemmas.List.Folds.{list_any-append}
 use Rattle.std.proofs.lemmas.List.Elements.{All-head}
 use Rattle.std.proofs.lemmas.Bool.Decides.{nat_tests}
+use Rattle.std.proofs.lemmas.Bool.{and_parts as and_true, and_from as both_true, not-true as not_true, not_from_false as not_false}
 use Rattle.lists.specs.Members.{IsIn}
 use Rattle.lists.specs.Members.IsIn.{here, later}
-use Rattle.lists.proofs.Members.{IsIn-append_cases, IsIn-append_left, only_in}
+use Rattle.lists.proofs.Members.{IsIn-append_cases, IsIn-append_left, only_in, IsIn-map, from_IsIn-map, IsIn-filter, from_IsIn-filter}
 use Rattle.lists.proofs.Tests.{no_pass}
-use Rattle.patterns.proofs.Booleans.{and_true, both_true, not_true, not_false}
-use Rattle.patterns.proofs.Lists.{IsIn-map, from_IsIn-map, IsIn-filter, from_IsIn-filter}
 use Rattle.gridded.specs.declared.cell.Cell.{Cell}
 use Rattle.gridded.specs.CellSets.{is_among as has_cell, cells_that, IsCellSet}
 use Rattle.gridded.specs.Grids.{Point, holds, cell_of, cells_in, IsGridded}

@@ -5,11 +5,14 @@ use Rattle.std.specs.List.{list_any}
 use Rattle.std.specs.Cmp.Lexicographic.{pointwise, pointwise_decides}
 use Rattle.std.proofs.lemmas.List.Folds.{list_all-map}
 use Rattle.std.proofs.lemmas.Bool.Decides.{nat_tests, Decides-eqb}
-use Rattle.patterns.specs.Parts.{IsIn, IsPart}
+use Rattle.std.proofs.lemmas.Bool.{and_parts as and_true, and_from as both_true, or_parts as or_false, not-true as not_true, not_from_false as not_false}
 use Rattle.lists.specs.Members.IsIn.{here, later}
 use Rattle.lists.specs.Parts.IsPart.{none, kept, left_out}
-use Rattle.patterns.proofs.Booleans.{and_true, both_true, or_false, not_true, not_false, same_test}
-use Rattle.patterns.proofs.Lists.{IsIn-map, IsIn-filter}
+use Rattle.lists.specs.Members.{IsIn}
+use Rattle.lists.specs.Parts.{IsPart}
+use Rattle.lists.proofs.Tests.{same_test}
+use Rattle.lists.proofs.Members.{IsIn-map, IsIn-filter}
+use Rattle.lists.proofs.Parts.{IsPart-one}
 use Rattle.patterns.proofs.Occurrences.{match_tells}
 use Rattle.patterns.specs.Occurs.{is_match, stand_alike, stands_as}
 use Rattle.gridded.specs.declared.cell.Cell.{Cell}
@@ -27,7 +30,6 @@ use Rattle.gridded.proofs.Holding.{holds_from, same_cell_from, held_point, is_tr
 use Rattle.steps.proofs.Minimal.{EachGridded}
 use Rattle.steps.proofs.Members.{holds_none_of, meets_each}
 use Rattle.tiling_core.proofs.Ordered.{is_member-tiling_of}
-use Rattle.patterns.proofs.PartLaws.{IsPart-one}
 use Rattle.gridded.proofs.Pairs.{holds_pair}
 use Rattle.steps.proofs.Lines.{holds_point, cell_is_in, cell_in_grid}
 use Rattle.steps.proofs.PutBack.{IsLone, IsOffBoth, Follows, gridded_tells}

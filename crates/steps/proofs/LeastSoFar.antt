@@ -9,10 +9,11 @@ use Rattle.std.proofs.lemmas.List.Elements.{All-filter, All-take, filter-append}
 use Rattle.std.proofs.lemmas.List.Kept.{IsStrictlySortedBy-filter}
 use Rattle.std.specs.declared.cmp.Ordering.{Ordering}
 use Rattle.std.specs.declared.cmp.Ordering.TheVariants.{Less}
-use Rattle.patterns.specs.Parts.{IsIn}
+use Rattle.std.proofs.lemmas.Bool.{and_parts as and_true, and_from as both_true}
 use Rattle.lists.specs.Members.IsIn.{here, later}
-use Rattle.patterns.proofs.Booleans.{and_true, both_true, same_test}
-use Rattle.patterns.proofs.Lists.{IsIn-filter, from_IsIn-filter, IsIn-append_left}
+use Rattle.lists.specs.Members.{IsIn}
+use Rattle.lists.proofs.Tests.{same_test}
+use Rattle.lists.proofs.Members.{IsIn-filter, from_IsIn-filter, IsIn-append_left}
 use Rattle.gridded.specs.Grids.{Point, holds, IsGridded}
 use Rattle.gridded.specs.Orders.{gridded_eq, gridded_cmp}
 use Rattle.tiling_core.specs.Tiles.{AreGridded}

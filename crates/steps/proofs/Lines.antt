@@ -4,12 +4,13 @@ use Rattle.std.specs.Prelude.{◌&&◌, ◌||◌, ◌==◌, not, map, nat_lt}
 use Rattle.std.specs.List.{filter, list_any, list_all, range_with_len}
 use Rattle.std.proofs.lemmas.List.Folds.{list_all-map}
 use Rattle.std.proofs.lemmas.Bool.Decides.{nat_tests}
-use Rattle.patterns.specs.Parts.{IsIn, IsPart}
+use Rattle.std.proofs.lemmas.Bool.{and_parts as and_true, and_from as both_true, not-true as not_true, not_from_false as not_false}
 use Rattle.lists.specs.Members.IsIn.{here, later}
 use Rattle.lists.specs.Parts.IsPart.{none, kept, left_out}
-use Rattle.patterns.proofs.Booleans.{and_true, both_true, not_true, not_false}
-use Rattle.patterns.proofs.Lists.{IsIn-map, from_IsIn-map, IsIn-filter}
-use Rattle.patterns.proofs.NoRepeat.{IsIn-flat_map, in_range_with_len}
+use Rattle.lists.specs.Members.{IsIn}
+use Rattle.lists.specs.Parts.{IsPart}
+use Rattle.lists.proofs.Members.{IsIn-map, from_IsIn-map, IsIn-filter, IsIn-flat_map}
+use Rattle.lists.proofs.Ranges.{in_range_with_len}
 use Rattle.patterns.proofs.Occurrences.{match_tells}
 use Rattle.gridded.specs.declared.axis.Axis.{Axis}
 use Rattle.gridded.specs.declared.axis.Axis.TheVariants.{Column, Row}

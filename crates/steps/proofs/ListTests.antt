@@ -3,9 +3,10 @@ use Rattle.std.proofs.Common.{◌≡◌, Bool, true, false, List, [], ◌∷◌,
 use Rattle.std.specs.Prelude.{◌&&◌, ◌||◌, not, All, map}
 use Rattle.std.specs.List.{list_all, list_any, filter}
 use Rattle.std.proofs.lemmas.List.Elements.{All-head, All-tail}
-use Rattle.patterns.proofs.Booleans.{and_true, both_true, or_all}
-use Rattle.patterns.specs.Parts.{IsIn}
+use Rattle.std.proofs.lemmas.Bool.{and_parts as and_true, and_from as both_true}
+use Rattle.std.proofs.Math.Bool.{or-true as or_all}
 use Rattle.lists.specs.Members.IsIn.{here, later}
+use Rattle.lists.specs.Members.{IsIn}
 
 pub each_passes : {X : Type 0} (test : X → Bool) {x : X} {xs : List X} → list_all test xs ≡ true → IsIn x xs → test x ≡ true
 each_passes test {x = x} h (here {xs = xs}) = (and_true (test x) (list_all test xs) h).0

@@ -3,15 +3,16 @@ use Rattle.std.proofs.Common.{◌≡◌, ℕ, zero, suc, ◌<◌, ◌≤◌, Boo
 use Rattle.std.specs.Prelude.{◌&&◌, not, nat_lt}
 use Rattle.std.specs.List.{list_any, list_all}
 use Rattle.std.proofs.lemmas.Bool.Decides.{nat_tests}
-use Rattle.patterns.proofs.Booleans.{and_true, both_true, not_true, not_false, same_test}
-use Rattle.patterns.proofs.Lists.{from_IsIn-filter, IsIn-filter}
-use Rattle.patterns.specs.Parts.{IsIn}
+use Rattle.std.proofs.lemmas.Bool.{and_parts as and_true, and_from as both_true, not-true as not_true, not_from_false as not_false}
 use Rattle.gridded.specs.Grids.{Point, holds, IsGridded}
 use Rattle.gridded.specs.Orders.{gridded_eq}
 use Rattle.gridded.specs.OrderLaws.{gridded_eq_decides}
 use Rattle.tiling_core.specs.Patterns.{holds_another, minimal}
 use Rattle.steps.proofs.ListTests.{some_passes, which_passes, none-not_any}
 use Rattle.gridded.proofs.Holding.{holds_trans, holds_itself, holds_as_long}
+use Rattle.lists.proofs.Tests.{same_test}
+use Rattle.lists.proofs.Members.{from_IsIn-filter, IsIn-filter}
+use Rattle.lists.specs.Members.{IsIn}
 
 -- each pattern of a list is gridded
 abbrev pub EachGridded : List (List Point) → Type 0

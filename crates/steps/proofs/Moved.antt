@@ -4,8 +4,8 @@ use Rattle.std.specs.Prelude.{◌&&◌, ◌==◌, not, map, nat_lt, nat_le}
 use Rattle.std.specs.List.{list_all}
 use Rattle.std.proofs.lemmas.Bool.Decides.{nat_tests}
 use Rattle.std.proofs.lemmas.List.{map_push}
-use Rattle.patterns.specs.Parts.{IsIn}
 use Rattle.lists.specs.Members.IsIn.{here, later}
+use Rattle.lists.specs.Members.{IsIn}
 use Rattle.patterns.specs.Occurs.{stands_as, stand_alike}
 use Rattle.patterns.specs.Search.{is_found}
 use Rattle.patterns.proofs.Searches.{found_from_start}

@@ -8,9 +8,9 @@ use Rattle.std.specs.declared.cmp.Ordering.{Ordering}
 use Rattle.std.specs.declared.cmp.Ordering.TheVariants.{Less, Equal, Greater}
 use Rattle.std.specs.Cmp.Lexicographic.{slice_cmp}
 use Rattle.std.proofs.lemmas.Bool.Decides.{nat_tests}
-use Rattle.patterns.specs.Parts.{IsIn}
 use Rattle.lists.specs.Members.IsIn.{here, later}
-use Rattle.patterns.proofs.Lists.{from_IsIn-map}
+use Rattle.lists.specs.Members.{IsIn}
+use Rattle.lists.proofs.Members.{from_IsIn-map}
 use Rattle.gridded.specs.declared.Cell.{Cell}
 use Rattle.gridded.specs.Grids.{Point, cell_of}
 use Rattle.gridded.specs.Orders.{cell_cmp, cell_eq, gridded_cmp, gridded_eq, cells_of}

@@ -4,12 +4,12 @@ use Rattle.std.specs.Prelude.{not, map, nat_lt, All, IsTrue}
 use Rattle.std.specs.List.{filter, list_any, list_all, range_with_len}
 use Rattle.std.proofs.lemmas.Bool.Decides.{nat_tests, Decides-eqb}
 use Rattle.std.proofs.lemmas.List.{length-map, take_more_set, map_more, take_all}
-use Rattle.patterns.specs.Parts.{IsIn}
+use Rattle.std.proofs.lemmas.Bool.{and_parts as and_true, and_from as both_true, not-true as not_true, not_from_false as not_false}
 use Rattle.lists.specs.Members.IsIn.{here, later}
+use Rattle.lists.specs.Members.{IsIn}
+use Rattle.lists.proofs.Members.{from_IsIn-map, IsIn-filter, from_IsIn-filter, from_IsIn-flat_map}
+use Rattle.lists.proofs.Ranges.{IsIn-range_with_len}
 use Rattle.patterns.specs.Words.{has_no_repeats}
-use Rattle.patterns.proofs.Booleans.{and_true, both_true, not_true, not_false}
-use Rattle.patterns.proofs.Lists.{from_IsIn-map, IsIn-filter, from_IsIn-filter}
-use Rattle.patterns.proofs.NoRepeat.{from_IsIn-flat_map, IsIn-range_with_len}
 use Rattle.gridded.specs.declared.axis.Axis.{Axis}
 use Rattle.gridded.specs.declared.axis.Axis.TheVariants.{Column, Row}
 use Rattle.gridded.specs.declared.cell.Cell.{Cell}

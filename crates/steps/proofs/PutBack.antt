@@ -4,11 +4,13 @@ use Rattle.std.specs.Prelude.{◌&&◌, ◌==◌, not, nat_lt, nat_le}
 use Rattle.std.specs.Bool.{beq}
 use Rattle.std.specs.List.{filter, list_any, list_all}
 use Rattle.std.proofs.lemmas.Bool.Decides.{nat_tests, Decides-eqb}
-use Rattle.patterns.specs.Parts.{IsIn, IsPart}
+use Rattle.std.proofs.lemmas.Bool.{and_parts as and_true, and_from as both_true, not-true as not_true}
 use Rattle.lists.specs.Members.IsIn.{here, later}
 use Rattle.lists.specs.Parts.IsPart.{kept, left_out}
-use Rattle.patterns.proofs.Booleans.{and_true, both_true, not_true}
-use Rattle.patterns.proofs.Lists.{IsIn-map, from_IsIn-filter}
+use Rattle.lists.specs.Members.{IsIn}
+use Rattle.lists.specs.Parts.{IsPart}
+use Rattle.lists.proofs.Members.{IsIn-map, from_IsIn-filter}
+use Rattle.lists.proofs.Parts.{IsIn-IsPart}
 use Rattle.patterns.specs.Words.{has_no_repeats}
 use Rattle.patterns.specs.Occurs.{stands_as, stand_alike, is_match}
 use Rattle.gridded.specs.declared.cell.Cell.{Cell}
@@ -17,7 +19,6 @@ use Rattle.gridded.specs.Orders.{cell_eq, letters_of}
 use Rattle.gridded.specs.OrderLaws.{cell_eq_decides}
 use Rattle.steps.proofs.ListTests.{each_passes, none_passes}
 use Rattle.gridded.proofs.Holding.{same_cell_tells, same_cell_from}
-use Rattle.patterns.proofs.PartLaws.{IsIn-IsPart}
 
 -- ---- the points of a gridded permutation
 pub record Follows (x y : Point) : Type 0 where

@@ -4,8 +4,6 @@ use Rattle.std.specs.Prelude.{◌&&◌, not, map, nat_lt, All}
 use Rattle.std.specs.List.{filter, remove}
 use Rattle.std.proofs.lemmas.Bool.Decides.{Decides-eqb}
 use Rattle.std.proofs.lemmas.List.{length-map}
-use Rattle.patterns.specs.Parts.{IsIn}
-use Rattle.patterns.proofs.Lists.{from_IsIn-map, IsIn-map, from_IsIn-filter}
 use Rattle.patterns.specs.Ranks.{standardised}
 use Rattle.gridded.specs.declared.cell.Cell.{Cell}
 use Rattle.gridded.specs.Grids.{Point, cell_of}
@@ -19,6 +17,8 @@ use Rattle.steps.proofs.ListTests.{each_passes, all_pass, at_each}
 use Rattle.steps.proofs.Cleaned.{count-cons, points_in_cell, none_in_cell}
 use Rattle.steps.proofs.PutBack.{outside-all}
 use Rattle.steps.proofs.InGrid.{all_in}
+use Rattle.lists.specs.Members.{IsIn}
+use Rattle.lists.proofs.Members.{from_IsIn-map, IsIn-map, from_IsIn-filter}
 
 abbrev no_point_of : Cell → List Point → List Point
 no_point_of c g = filter (λ p. not (cell_eq c p.cell)) g

@@ -5,11 +5,11 @@ use Rattle.std.specs.List.Sorted.{IsStrictlySortedBy}
 use Rattle.std.specs.List.{list_any, AllByRecursion}
 use Rattle.std.proofs.lemmas.Bool.Decides.{nat_tests, Decides-eqb}
 use Rattle.std.proofs.lemmas.List.{length-map}
-use Rattle.patterns.specs.Parts.{IsIn}
+use Rattle.std.proofs.lemmas.Bool.{and_parts as and_true, and_from as both_true, or_cases as or_true, not-true as not_true, not_from_false as not_false}
 use Rattle.lists.specs.Members.IsIn.{here, later}
+use Rattle.lists.specs.Members.{IsIn, is_nil}
+use Rattle.lists.proofs.Members.{IsIn-map, from_IsIn-map}
 use Rattle.patterns.specs.Words.{has_no_repeats}
-use Rattle.patterns.proofs.Booleans.{and_true, both_true, or_true, not_true, not_false}
-use Rattle.patterns.proofs.Lists.{IsIn-map, from_IsIn-map}
 use Rattle.gridded.specs.declared.axis.Axis.{Axis}
 use Rattle.gridded.specs.declared.axis.Axis.TheVariants as axis
 use Rattle.gridded.specs.declared.cell.Cell.{Cell}
@@ -22,7 +22,7 @@ use Rattle.tiling_core.specs.Members.{Member, HoldsOneOf}
 use Rattle.tiling_core.specs.Carried.{MemberOf, IsRenaming, RenamingKeepsCounts}
 use Rattle.tiling_core.specs.Patterns.{forbids, minimal}
 use Rattle.gridded.specs.Moved.{move_cells}
-use Rattle.steps.specs.Steps.{step_applies, step_result, is_nil, is_hopeless, is_isolated, can_be_cleaned, clean, tidy_lists, tidied, is_blank, without_line, close_cell, close_up}
+use Rattle.steps.specs.Steps.{step_applies, step_result, is_hopeless, is_isolated, can_be_cleaned, clean, tidy_lists, tidied, is_blank, without_line, close_cell, close_up}
 use Rattle.tiling_core.specs.Roots.{void_tiling}
 use Rattle.steps.specs.Kept.{KeepsMembers, StepsKeepMembers}
 use Rattle.steps.specs.declared.step.Step.TheVariants.{Min, Clean, Lists, Column, Row, Void}

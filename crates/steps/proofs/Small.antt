@@ -3,7 +3,7 @@ use Rattle.std.proofs.Common.{◌≡◌, ℕ, suc, false, List, [], ◌∷◌, l
 use Rattle.std.specs.Prelude.{◌&&◌, ◌==◌}
 use Rattle.std.specs.Cmp.Lexicographic.{pointwise}
 use Rattle.std.proofs.lemmas.Bool.Decides.{nat_tests}
-use Rattle.patterns.proofs.Booleans.{and_end, and_none}
+use Rattle.std.proofs.Math.Bool.{and-true as and_end, and-false as and_none}
 use Rattle.gridded.specs.Grids.{Point}
 use Rattle.gridded.specs.Orders.{gridded_eq}
 use Rattle.tiling_core.specs.Tiles.{Tiles}

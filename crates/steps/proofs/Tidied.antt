@@ -7,9 +7,7 @@ use Rattle.std.specs.declared.cmp.Ordering.{Ordering}
 use Rattle.std.specs.declared.cmp.Ordering.TheVariants.{Less}
 use Rattle.std.proofs.lemmas.List.Folds.{list_all-map}
 use Rattle.std.proofs.lemmas.List.Kept.{IsStrictlySortedBy-filter}
-use Rattle.patterns.proofs.Booleans.{not_true, not_false, same_test}
-use Rattle.patterns.proofs.Lists.{from_IsIn-filter, IsIn-filter, from_IsIn-map}
-use Rattle.patterns.specs.Parts.{IsIn}
+use Rattle.std.proofs.lemmas.Bool.{not-true as not_true, not_from_false as not_false}
 use Rattle.gridded.specs.Grids.{Point, holds}
 use Rattle.gridded.specs.Orders.{gridded_eq, gridded_cmp}
 use Rattle.gridded.specs.OrderLaws.{gridded_eq_decides}
@@ -20,6 +18,9 @@ use Rattle.gridded.proofs.Holding.{holds_trans, holds_empty}
 use Rattle.steps.proofs.Minimal.{EachGridded, holds_one_minimal, minimal_apart}
 use Rattle.steps.proofs.Members.{meets_each, holds_none_of}
 use Rattle.steps.proofs.Implied.{IsTidyList, meets_unimplied}
+use Rattle.lists.proofs.Tests.{same_test}
+use Rattle.lists.proofs.Members.{from_IsIn-filter, IsIn-filter, from_IsIn-map}
+use Rattle.lists.specs.Members.{IsIn}
 
 -- ---- what a filter leaves
 gridded_filtered : (p : List Point → Bool) (patterns : List (List Point)) → EachGridded patterns → EachGridded (filter p patterns)

@@ -18,11 +18,9 @@ use Rattle.tiling_core.specs.Patterns.{is_among, forbids, active_cells, holds_an
 use Rattle.gridded.specs.Parts.{restricted}
 use Rattle.gridded.specs.Places.{touches, has_one_point_in}
 use Rattle.gridded.specs.Moved.{move_cells}
+use Rattle.lists.specs.Members.{is_nil}
 
 -- ---- Void
-abbrev pub is_nil : {X : Type 0} → List X → Bool
-is_nil xs = length xs == 0
-
 -- a list is empty, or the empty pattern is forbidden
 abbrev pub is_hopeless : Tiles → Bool
 is_hopeless t = list_any is_nil t.requirements || forbids t []

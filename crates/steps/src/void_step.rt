@@ -3,9 +3,10 @@ ghost use Rattle.std.specs.Prelude.{◌≡◌, [], IfOk};
 ghost use Rattle.std.specs.List.{list_any};
 ghost use Rattle.gridded.specs.Orders.{gridded_eq};
 ghost use Rattle.tiling_core.specs.Same.{tiles_eq};
-ghost use Rattle.steps.specs.Steps.{is_nil, is_hopeless};
+ghost use Rattle.steps.specs.Steps.{is_hopeless};
 ghost use Rattle.tiling_core.specs.Roots.{void_tiling};
 ghost use Rattle.tiling_core.specs.Patterns.{is_among};
+ghost use Rattle.lists.specs.Members.{is_nil};
 
 use gridded::Gridded;
 use sequences::Sequence;

@@ -1,18 +1,16 @@
 -- Words with all their letters in one cell.
 use Rattle.std.proofs.Common.{◌≡◌, ℕ, zero, suc, ◌<◌, ◌≤◌, Bool, true, false, List, [], ◌∷◌, length, take, refl, sym, ap, ◌∙◌, subst, arith}
 use Rattle.std.specs.Prelude.{map, All, IsTrue}
-use Rattle.std.specs.List.{AllByRecursion, list_all}
+use Rattle.std.specs.List.{AllByRecursion}
 use Rattle.std.proofs.lemmas.List.Elements.{All-from_recursion}
-use Rattle.std.proofs.lemmas.Bool.Decides.{nat_tests}
-use Rattle.patterns.proofs.Booleans.{both_true}
 use Rattle.patterns.specs.Words.{has_no_repeats}
 use Rattle.patterns.specs.Laws.{IsPermutationOf}
 use Rattle.gridded.specs.declared.cell.Cell.{Cell}
-use Rattle.gridded.specs.Grids.{Point, points, FitTogether, IsGridded, is_consistent, may_follow}
-use Rattle.gridded.specs.Orders.{letters_of}
+use Rattle.gridded.specs.Grids.{Point, points, FitTogether, IsGridded, is_consistent}
 use Rattle.tiling_core.specs.Tiles.{IsInGrid}
 use Rattle.gridded.specs.Places.{fits_grid}
 use Rattle.tiling_core.specs.Roots.{in_one_cell, only_cell}
+use Rattle.tiling_core.proofs.Roots.{letters_in_one_cell, consistent_in_one_cell, fits_one_cell}
 
 abbrev pub nine_corners : List Cell
 nine_corners = let o = only_cell in o ∷ o ∷ o ∷ o ∷ o ∷ o ∷ o ∷ o ∷ o ∷ []
@@ -35,21 +33,6 @@ points_in_corner (l ∷ w) = ap (λ g. record { letter = l; cell = only_cell } �
 pub points-corners : (w : List ℕ) → length w ≤ 9 → points w (take (length w) nine_corners) ≡ in_one_cell w
 points-corners w h = ap (points w) (take_corners (length w) 9 h) ∙ points_in_corner w
 
-letters_in_corner : (w : List ℕ) → letters_of (in_one_cell w) ≡ w
-letters_in_corner [] = refl
-letters_in_corner (l ∷ w) = ap (λ v. l ∷ v) (letters_in_corner w)
-
-one_follows : (l m : ℕ) → may_follow (record { letter = l; cell = only_cell }) (record { letter = m; cell = only_cell }) ≡ true
-one_follows l m = grind (arith, nat_tests)
-
-all_follow : (l : ℕ) (w : List ℕ) → list_all (λ q. may_follow (record { letter = l; cell = only_cell }) q) (in_one_cell w) ≡ true
-all_follow l [] = refl
-all_follow l (m ∷ w) = both_true _ _ (one_follows l m) (all_follow l w)
-
-consistent : (w : List ℕ) → is_consistent (in_one_cell w) ≡ true
-consistent [] = refl
-consistent (l ∷ w) = both_true _ _ (all_follow l w) (consistent w)
-
 length-corner : (w : List ℕ) → length (in_one_cell w) ≡ length w
 length-corner [] = refl
 length-corner (l ∷ w) = ap suc (length-corner w)
@@ -66,8 +49,8 @@ pub gridded_in_corner : (w : List ℕ) → IsPermutationOf (length w) w → leng
 gridded_in_corner w p h = record {
   short = rw (length-corner w) h;
   below = subst (λ n. All (λ (q : Point). q.letter < n) (in_one_cell w)) (sym (length-corner w)) (All-from_recursion (λ (q : Point). q.letter < length w) (in_one_cell w) (below (length w) w p.below));
-  distinct = rw (letters_in_corner w) (is_true (has_no_repeats w) p.distinct);
-  consistent = is_true (is_consistent (in_one_cell w)) (consistent w);
+  distinct = rw (letters_in_one_cell w) (is_true (has_no_repeats w) p.distinct);
+  consistent = is_true (is_consistent (in_one_cell w)) (consistent_in_one_cell w);
 }
 
 length_corners : (n : ℕ) → length (corners n) ≡ n
@@ -83,13 +66,9 @@ fit_in_corner w p h = record {
 pub ruleset placing = (points-corners, fit_in_corner)
 
 -- ---- the grid of one cell
-in_unit_grid : (w : List ℕ) → fits_grid 1 1 (in_one_cell w) ≡ true
-in_unit_grid [] = refl
-in_unit_grid (l ∷ w) = in_unit_grid w
-
 words_inside : (basis : List (List ℕ)) → AllByRecursion (λ g. fits_grid 1 1 g ≡ true) (map in_one_cell basis)
 words_inside [] = tt
-words_inside (w ∷ basis) = (in_unit_grid w, words_inside basis)
+words_inside (w ∷ basis) = (fits_one_cell w, words_inside basis)
 
 pub IsInGrid-words : (basis : List (List ℕ)) → IsInGrid 1 1 (map in_one_cell basis)
 IsInGrid-words basis = All-from_recursion (λ g. fits_grid 1 1 g ≡ true) (map in_one_cell basis) (words_inside basis)

@@ -11,7 +11,7 @@ use std::alloc::{AllocError, Global};
 use tiling_core::Tiling;
 
 /// The tiling without the patterns.
-#[tactic(auto, using(rule_kinds::proofs::Joined::single))]
+#[tactic(auto, using(tiling_core::proofs::Joined::single))]
 fn inferred(alloc: Global, tiling: &Tiling, patterns: &[Gridded]) -> Result<Vec<Tiling>, AllocError>
     requires { IsInGrid tiling.now.width tiling.now.height patterns.now }
     ensures { IfOk result (λ children. children.items ≡ also tiling.now patterns.now [] ∷ []) }

@@ -1,14 +1,14 @@
 -- A pack that a text names has a letter.
-use Rattle.std.proofs.Common.{◌≡◌, ◌<◌, ℕ, Bool, true, false, List, [], ◌∷◌, Option, Some, None, refl, sym, subst, arith}
-use Rattle.std.specs.Prelude.{◌==◌, ◌⊎◌, ◌&&◌, not, if◌then◌else◌, codes}
-use Rattle.std.specs.List.{list_any, list_all}
+use Rattle.std.proofs.Common.{◌≡◌, ◌<◌, ℕ, Bool, true, false, [], ◌∷◌, Some, None, refl, sym, subst, arith}
+use Rattle.std.specs.Prelude.{◌==◌, ◌⊎◌, ◌&&◌, not, if◌then◌else◌}
+use Rattle.std.specs.List.{list_all}
 use Rattle.std.proofs.Common.{⊎_elim}
 use Rattle.std.proofs.lemmas.Bool.{eqb-true, and_parts, or_cases}
 use Rattle.patterns.specs.Words.{has_no_repeats}
-use Rattle.steps.specs.Steps.{is_nil}
 use Rattle.rule_kinds.specs.Choices.{Packs}
 use Rattle.tile_rules.specs.Complete.{rulebook_of}
 use Rattle.work_packs.specs.PackTexts.{Text, is_letter, is_pack_text, letters_in, read_packs}
+use Rattle.lists.specs.Members.{is_nil}
 
 -- the number of the pack that a text with this byte names isn't 0
 abbrev HasNumber : ℕ → Text → Type 0

@@ -1,36 +1,18 @@
 -- The law of counts.
-use Rattle.std.proofs.Common.{◌≡◌, ◌+◌, ◌-◌, ◌<◌, ◌≤◌, ℕ, zero, suc, List, [], ◌∷◌, length, get_or, refl, sym, ap, ◌∙◌, arith}
+use Rattle.std.proofs.Common.{◌≡◌, ◌-◌, ◌<◌, ℕ, List, [], ◌∷◌, length, get_or, refl, ap, ◌∙◌, arith}
 use Rattle.std.specs.Prelude.{map}
 use Rattle.std.specs.List.{sum_by, AllByRecursion}
 use Rattle.std.proofs.lemmas.List.{get_or-map, length-map}
-use Rattle.std.proofs.lemmas.List.Sums.{sum_by-cons}
 use Rattle.std.proofs.lemmas.List.Elements.{filter_agree}
-use Rattle.patterns.specs.Parts.{IsIn, NoRepeats}
-use Rattle.lists.specs.Members.NoRepeats.{no_element}
-use Rattle.patterns.proofs.Lists.{numbered, length-numbered, IsIn-numbered, from_IsIn-numbered, from_IsIn-map, NoRepeats-append, NoRepeats-map, length-from_inverse}
+use Rattle.lists.proofs.Unions.{NoRepeats-numbered, within_from_IsIn, length-numbered, IsIn-numbered, from_IsIn-numbered}
+use Rattle.lists.proofs.Counts.{sum_by-map}
+use Rattle.lists.specs.Members.{IsIn, NoRepeats}
+use Rattle.lists.specs.Unions.{numbered}
+use Rattle.lists.proofs.Injections.{length-from_inverse}
 use Rattle.gridded.specs.Grids.{Point, gridded_of}
 use Rattle.tiling_core.specs.Tiles.{Tiles, is_member, count}
 use Rattle.tiling_core.specs.Carried.{CountsAddUp, RenamingKeepsCounts}
 use Rattle.tiling_core.proofs.Listed.{members, member_is_listed, listed_is_member, NoRepeats-members}
-
--- ---- numbered elements
-pub NoRepeats-numbered : {Y : Type 0} (k : ℕ) (yss : List (List Y)) → AllByRecursion (λ ys. NoRepeats ys) yss → NoRepeats (numbered k yss)
-NoRepeats-numbered k [] h = no_element
-NoRepeats-numbered {Y} k (ys ∷ yss) h =
-    NoRepeats-append (NoRepeats-map (λ (y : Y). (k, y)) (λ x z e. ap (λ (p : ℕ × Y). p.1) e) h.0) (NoRepeats-numbered (suc k) yss h.1)
-    (λ p a b. let w = from_IsIn-map (λ (y : Y). (k, y)) ys a in
-    let first : p.0 ≡ k = ap (λ (q : ℕ × Y). q.0) w.2 in
-    let past : suc k ≤ p.0 = (from_IsIn-numbered (suc k) yss p.0 p.1 b).0 in
-    absurd (omega arith))
-
-within_from_IsIn : {Y : Type 0} (yss : List (List Y)) (i : ℕ) {y : Y} → IsIn y (get_or yss i []) → i < length yss
-within_from_IsIn [] i m = elim m [ ]
-within_from_IsIn (ys ∷ yss) zero m = omega arith
-within_from_IsIn (ys ∷ yss) (suc i) m = let k = within_from_IsIn yss i m in omega arith
-
-pub sum_by-map : {X Y : Type 0} (f : X → Y) (size : Y → ℕ) (xs : List X) → sum_by size (map f xs) ≡ sum_by (λ x. size (f x)) xs
-sum_by-map f size [] = refl
-sum_by-map f size (x ∷ xs) = sum_by-cons size (f x) (map f xs) ∙ ap (λ n. size (f x) + n) (sum_by-map f size xs) ∙ sym (sum_by-cons (λ z. size (f z)) x xs)
 
 -- ---- the law
 each_once : (n : ℕ) (children : List Tiles) → AllByRecursion (λ ys. NoRepeats ys) (map (λ child. members child n) children)

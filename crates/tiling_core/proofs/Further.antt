@@ -1,44 +1,40 @@
 -- Members where there are further patterns, and one child to which members are renamed.
-use Rattle.std.proofs.Common.{◌≡◌, ◌<◌, ℕ, zero, suc, Bool, true, List, [], ◌∷◌, length, refl, sym, ◌∙◌, arith}
+use Rattle.std.proofs.Common.{◌≡◌, ◌<◌, ℕ, zero, suc, true, List, [], ◌∷◌, length, refl, sym, ◌∙◌, arith}
 use Rattle.std.specs.Prelude.{not, slice_index_or}
-use Rattle.std.specs.List.{list_all, list_any}
-use Rattle.patterns.specs.Parts.{IsIn}
-use Rattle.patterns.proofs.Booleans.{and_true, both_true}
+use Rattle.std.specs.List.{list_all}
+use Rattle.std.proofs.lemmas.Bool.{and_parts, and_from}
 use Rattle.gridded.specs.Grids.{Point, holds}
 use Rattle.tiling_core.specs.Tiles.{Tiles, is_member, count}
 use Rattle.tiling_core.specs.Carried.{MemberOf, IsRenaming, CarriesTo}
 use Rattle.tiling_core.specs.Patterns.{also}
 use Rattle.tiling_core.proofs.Deciding.{is_member_decides}
 use Rattle.tiling_core.proofs.Listed.{members, member_is_listed}
-use Rattle.tiling_core.proofs.Ordered.{is_member-also}
+use Rattle.tiling_core.proofs.Ordered.{is_member-also, holds_one}
+use Rattle.lists.specs.Members.{IsIn}
 
--- whether a gridded permutation holds one of some patterns
-abbrev pub holds_one : List Point → List (List Point) → Bool
-holds_one g patterns = list_any (λ p. holds g p) patterns
-
-member_by_test : (t : Tiles) (n : ℕ) (g : List Point) → MemberOf t n g → is_member t g ≡ true
+pub member_by_test : (t : Tiles) (n : ℕ) (g : List Point) → MemberOf t n g → is_member t g ≡ true
 member_by_test t n g m = (is_member_decides t g).1 m.member
 
 -- a member that holds none of further obstructions
 pub holding_none : (t : Tiles) (patterns : List (List Point)) (n : ℕ) (g : List Point) → MemberOf t n g → list_all (λ p. not (holds g p)) patterns ≡ true → MemberOf (also t patterns []) n g
 holding_none t patterns n g m e = record {
   gridded = m.gridded;
-  member = (is_member_decides (also t patterns []) g).0 (is_member-also t patterns [] g ∙ both_true _ _ (member_by_test t n g m) (both_true _ true e refl));
+  member = (is_member_decides (also t patterns []) g).0 (is_member-also t patterns [] g ∙ and_from _ _ (member_by_test t n g m) (and_from _ true e refl));
 }
 
 -- a member that holds one of the patterns of a further list
 pub holding_one : (t : Tiles) (patterns : List (List Point)) (n : ℕ) (g : List Point) → MemberOf t n g → holds_one g patterns ≡ true → MemberOf (also t [] (patterns ∷ [])) n g
 holding_one t patterns n g m e = record {
   gridded = m.gridded;
-  member = (is_member_decides (also t [] (patterns ∷ [])) g).0 (is_member-also t [] (patterns ∷ []) g ∙ both_true _ _ (member_by_test t n g m) (both_true (holds_one g patterns) true e refl));
+  member = (is_member_decides (also t [] (patterns ∷ [])) g).0 (is_member-also t [] (patterns ∷ []) g ∙ and_from _ _ (member_by_test t n g m) (and_from (holds_one g patterns) true e refl));
 }
 
 -- a member of the tiling with further patterns is a member, and what it holds
 pub from_further : (t : Tiles) (obstructions : List (List Point)) (lists : List (List (List Point))) (n : ℕ) (g : List Point) → MemberOf (also t obstructions lists) n g
     → MemberOf t n g × (list_all (λ p. not (holds g p)) obstructions ≡ true) × (list_all (holds_one g) lists ≡ true)
 from_further t obstructions lists n g m =
-    let both = and_true (is_member t g) _ (sym (is_member-also t obstructions lists g) ∙ member_by_test (also t obstructions lists) n g m) in
-    let rest = and_true (list_all (λ p. not (holds g p)) obstructions) (list_all (holds_one g) lists) both.1 in
+    let both = and_parts (is_member t g) _ (sym (is_member-also t obstructions lists g) ∙ member_by_test (also t obstructions lists) n g m) in
+    let rest = and_parts (list_all (λ p. not (holds g p)) obstructions) (list_all (holds_one g) lists) both.1 in
     (record { gridded = m.gridded; member = (is_member_decides t g).0 both.0 }, rest.0, rest.1)
 
 -- where none is counted, there is none

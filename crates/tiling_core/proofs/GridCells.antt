@@ -1,5 +1,5 @@
 -- The active cells.
-use Rattle.std.proofs.Common.{◌≡◌, ◌<◌, ◌≤◌, ◌+◌, ◌-◌, ◌/◌, ◌%◌, ℕ, zero, suc, Bool, true, false, cond, List, [], ◌∷◌, ◌++◌, length, get_or, take, refl, sym, ap, ◌∙◌, arith, append-nil}
+use Rattle.std.proofs.Common.{◌≡◌, ◌<◌, ◌≤◌, ◌+◌, ◌-◌, ◌/◌, ◌%◌, ℕ, Bool, true, false, cond, List, [], ◌∷◌, ◌++◌, length, get_or, take, refl, sym, ap, ◌∙◌, arith, append-nil}
 use Rattle.std.specs.Prelude.{◌&&◌, ◌||◌, ◌↔◌, not, map, nat_lt, nat_eq, slice_index_or, Decides}
 use Rattle.std.specs.List.{filter, flat_map, range_with_len}
 use Rattle.std.proofs.lemmas.Bool.Decides.{nat_tests}
@@ -7,11 +7,15 @@ use Rattle.std.proofs.lemmas.List.Elements.{filter-append, All-head}
 use Rattle.std.proofs.lemmas.List.Folds.{list_any_more}
 use Rattle.std.proofs.lemmas.Grind.{flat_map-append}
 use Rattle.std.proofs.lemmas.List.{map-append}
-use Rattle.patterns.specs.Parts.{IsIn}
+use Rattle.std.proofs.lemmas.Bool.{false_from_ne_true, not_from_false}
+use Rattle.std.proofs.Math.Bool.{and-true, and-false, or-false}
 use Rattle.lists.specs.Members.IsIn.{here, later}
-use Rattle.patterns.proofs.Booleans.{not_false, and_end, and_none, or_end}
-use Rattle.patterns.proofs.Lists.{from_IsIn-map, IsIn-filter, from_IsIn-filter}
-use Rattle.patterns.proofs.NoRepeat.{IsIn-range_with_len}
+use Rattle.lists.proofs.Maps.{flat_map-agree}
+use Rattle.lists.proofs.Ranges.{range_split, IsIn-range_with_len}
+use Rattle.lists.proofs.Filters.{filter-flat_map, filter-none}
+use Rattle.lists.proofs.Tests.{which_passes, some_passes}
+use Rattle.lists.specs.Members.{IsIn}
+use Rattle.lists.proofs.Members.{from_IsIn-map, IsIn-filter, from_IsIn-filter}
 use Rattle.gridded.specs.declared.cell.Cell.{Cell}
 use Rattle.gridded.specs.Grids.{Point, IsGridded, cells_in}
 use Rattle.gridded.specs.Laws.{IsCellOf}
@@ -24,7 +28,7 @@ use Rattle.tiling_core.specs.Tiles.{Tiles, IsInGrid}
 use Rattle.gridded.specs.Places.{fits_grid}
 use Rattle.gridded.specs.Small.{point_at}
 use Rattle.tiling_core.specs.Patterns.{is_among, forbids, active_cells, is_free, IsActive}
-use Rattle.tiling_core.proofs.Deciding.{one_passes, some_passes, fits_grid_decides, not_held, false_from}
+use Rattle.tiling_core.proofs.Deciding.{fits_grid_decides, not_held}
 
 -- ---- sets of cells
 pub same_set : (p q : Cell → Bool) → ((c : Cell) → IsCellOf 8 8 c → p c ≡ q c) → cells_that p ≡ cells_that q
@@ -32,25 +36,6 @@ unfolding cells_that
 same_set p q f = agree_on_cells p q (cells_in 8 8) (λ c m. f c (from_IsIn-cells_in 8 8 c m))
 
 -- ---- a grid within the grid of 8 columns and 8 rows
-none_passes : (p : Cell → Bool) (cells : List Cell) → ((c : Cell) → IsIn c cells → p c ≡ false) → filter p cells ≡ []
-none_passes p [] f = refl
-none_passes p (c ∷ cells) f = rw (f c here) (none_passes p cells (λ d m. f d (later c m)))
-
-range_split : (a m n : ℕ) → range_with_len a (m + n) ≡ range_with_len a m ++ range_with_len (a + m) n
-range_split a zero n = let e : zero + n ≡ n = omega arith in let f : a + zero ≡ a = omega arith in rw (e, f) refl
-range_split a (suc m) n =
-    let e : suc m + n ≡ suc (m + n) = omega arith in
-    let f : a + suc m ≡ (a + 1) + m = omega arith in
-    rw (e, f) (ap (λ xs. a ∷ xs) (range_split (a + 1) m n))
-
-filter-flat_map : (p : Cell → Bool) (f : ℕ → List Cell) (xs : List ℕ) → filter p (flat_map f xs) ≡ flat_map (λ x. filter p (f x)) xs
-filter-flat_map p f [] = refl
-filter-flat_map p f (x ∷ xs) = filter-append p (f x) (flat_map f xs) ∙ ap (λ rest. filter p (f x) ++ rest) (filter-flat_map p f xs)
-
-flat_map-agree : (f g : ℕ → List Cell) (xs : List ℕ) → ((x : ℕ) → IsIn x xs → f x ≡ g x) → flat_map f xs ≡ flat_map g xs
-flat_map-agree f g [] h = refl
-flat_map-agree f g (x ∷ xs) h = rw (h x here, flat_map-agree f g xs (λ z m. h z (later x m))) refl
-
 flat_map-none : (f : ℕ → List Cell) (xs : List ℕ) → ((x : ℕ) → IsIn x xs → f x ≡ []) → flat_map f xs ≡ []
 flat_map-none f [] h = refl
 flat_map-none f (x ∷ xs) h = rw (h x here, flat_map-none f xs (λ z m. h z (later x m))) refl
@@ -74,7 +59,7 @@ column_within w h x p l =
     ∙ ap (λ ys. filter q (map at ys)) (range_split 0 h (8 - h))
     ∙ ap (λ cells. filter q cells) (map-append at (range_with_len 0 h) (range_with_len (0 + h) (8 - h)))
     ∙ filter-append q (column h x) (map at (range_with_len (0 + h) (8 - h)))
-    ∙ ap (λ cells. filter q (column h x) ++ cells) (none_passes q (map at (range_with_len (0 + h) (8 - h))) above)
+    ∙ ap (λ cells. filter q (column h x) ++ cells) (filter-none q (map at (range_with_len (0 + h) (8 - h))) above)
     ∙ append-nil (filter q (column h x))
     ∙ go (nat_lt x w) refl
   where
@@ -88,14 +73,14 @@ column_within w h x p l =
     above c m =
         let a = from_IsIn-map at (range_with_len (0 + h) (8 - h)) m in
         let high = (IsIn-range_with_len (0 + h) (8 - h) a.0 a.1).0 in
-        rw (a.2, not_below a.0 h (omega arith), and_none (nat_lt x w)) refl
+        rw (a.2, not_below a.0 h (omega arith), and-false (nat_lt x w)) refl
 
     go : (b : Bool) → nat_lt x w ≡ b → filter q (column h x) ≡ cond b (filter p (column h x)) []
     go true f = agree_on_cells q p (column h x) (λ c m.
         let a = from_IsIn-map at (range_with_len 0 h) m in
         let low = (IsIn-range_with_len 0 h a.0 a.1).1 in
         rw (a.2, f, is_below a.0 h (omega arith)) refl)
-    go false f = none_passes q (column h x) (λ c m. let a = from_IsIn-map at (range_with_len 0 h) m in rw (a.2, f) refl)
+    go false f = filter-none q (column h x) (λ c m. let a = from_IsIn-map at (range_with_len 0 h) m in rw (a.2, f) refl)
 
 pub cells_within : (w h : ℕ) (p : Cell → Bool) → w ≤ 8 → h ≤ 8 → cells_that (within w h p) ≡ filter p (cells_in w h)
 unfolding cells_that
@@ -119,13 +104,13 @@ cells_within w h p k l =
 or_comm : (a b : Bool) → (a || b) ≡ (b || a)
 or_comm true true = refl
 or_comm true false = refl
-or_comm false b = sym (or_end b)
+or_comm false b = sym (or-false b)
 
 pub wanted_cell : (set : List Cell) (cell : Cell) → with_cell set cell ≡ cells_that (λ c. has_cell set c || (cell_eq c cell && true))
-wanted_cell set cell = same_set (λ c. cell_eq c cell || has_cell set c) (λ c. has_cell set c || (cell_eq c cell && true)) (λ c k. or_comm (cell_eq c cell) (has_cell set c) ∙ ap (λ b. has_cell set c || b) (sym (and_end (cell_eq c cell))))
+wanted_cell set cell = same_set (λ c. cell_eq c cell || has_cell set c) (λ c. has_cell set c || (cell_eq c cell && true)) (λ c k. or_comm (cell_eq c cell) (has_cell set c) ∙ ap (λ b. has_cell set c || b) (sym (and-true (cell_eq c cell))))
 
 pub unwanted_cell : (set : List Cell) (cell : Cell) → IsCellSet set → set ≡ cells_that (λ c. has_cell set c || (cell_eq c cell && false))
-unwanted_cell set cell s = s ∙ same_set (λ c. has_cell set c) (λ c. has_cell set c || (cell_eq c cell && false)) (λ c k. sym (ap (λ b. has_cell set c || b) (and_none (cell_eq c cell)) ∙ or_end (has_cell set c)))
+unwanted_cell set cell s = s ∙ same_set (λ c. has_cell set c) (λ c. has_cell set c || (cell_eq c cell && false)) (λ c k. sym (ap (λ b. has_cell set c || b) (and-false (cell_eq c cell)) ∙ or-false (has_cell set c)))
 
 pub ruleset wanting = (wanted_cell, unwanted_cell)
 
@@ -137,7 +122,7 @@ one_point set (p ∷ []) d k e =
     let low : p.letter < 1 = All-head (λ (q : Point). q.letter < 1) p [] k.below in
     let first : p.letter ≡ 0 = omega arith in
     same_set (λ c. cell_eq c p.cell || has_cell set c) (λ c. has_cell set c || gridded_eq (point_at c) (p ∷ []))
-    (λ c m. or_comm (cell_eq c p.cell) (has_cell set c) ∙ ap (λ b. has_cell set c || b) (sym (ap (λ l. nat_eq 0 l && true && (cell_eq c p.cell && true)) first ∙ and_end (cell_eq c p.cell))))
+    (λ c m. or_comm (cell_eq c p.cell) (has_cell set c) ∙ ap (λ b. has_cell set c || b) (sym (ap (λ l. nat_eq 0 l && true && (cell_eq c p.cell && true)) first ∙ and-true (cell_eq c p.cell))))
 
 -- one more pattern
 more_points : (patterns : List (List Point)) (i : ℕ) (d : List Point) (cells : List Cell) → i < length patterns → cells ≡ cells_that (λ c. is_among (take i patterns) (point_at c))
@@ -181,7 +166,7 @@ one_more_number free number set cell wanted x y w e =
         rw (not_below (bit_of c) number (omega arith), is_below (bit_of c) (number + 1) (omega arith)) (w ∙ ap free (sym same))
     go c k false f =
         let other : ¬ (bit_of c ≡ number) = λ s. let n = cell_numbered c number k.1 s in differ (cell_eq c cell) f ((cell_eq_decides c cell).1 (λ i. record { x = (n.0 ∙ sym x) i; y = (n.1 ∙ sym y) i })) in
-        or_end (nat_lt (bit_of c) number && free c) ∙ ap (λ b. b && free c) (unless_equal (bit_of c) number other)
+        or-false (nat_lt (bit_of c) number && free c) ∙ ap (λ b. b && free c) (unless_equal (bit_of c) number other)
       where
         differ : (b : Bool) → b ≡ false → b ≡ true → ⊥
         differ true e f = cc
@@ -198,7 +183,7 @@ active_from_numbers t forbidden set number last k l e f =
 
 pub among_decides : (patterns : List (List Point)) (g : List Point) → Decides (is_among patterns g) (IsIn g patterns)
 among_decides patterns g = (
-  (λ e. let k = one_passes (gridded_eq g) patterns e in let same = (gridded_eq_decides g k.0).0 k.2 in rw same k.1),
+  (λ e. let k = which_passes (gridded_eq g) patterns e in let same = (gridded_eq_decides g k.0).0 k.2 in rw same k.1),
   (λ m. some_passes (gridded_eq g) m ((gridded_eq_decides g g).1 refl)),
 )
 
@@ -208,5 +193,5 @@ active_cells_are_active t c = (
     in_grid = from_IsIn-cells_in t.width t.height c a.0;
     free = λ n. not_held (forbids t (point_at c)) a.1 ((among_decides t.obstructions (point_at c)).1 n);
   }),
-  (λ k. IsIn-filter (λ d. not (forbids t (point_at d))) (IsIn-cells_in t.width t.height c k.in_grid) (not_false (forbids t (point_at c)) (false_from (forbids t (point_at c)) (λ e. k.free ((among_decides t.obstructions (point_at c)).0 e))))),
+  (λ k. IsIn-filter (λ d. not (forbids t (point_at d))) (IsIn-cells_in t.width t.height c k.in_grid) (not_from_false (forbids t (point_at c)) (false_from_ne_true (forbids t (point_at c)) (λ e. k.free ((among_decides t.obstructions (point_at c)).0 e))))),
 )

@@ -2,7 +2,6 @@
 use Rattle.std.proofs.Common.{◌≡◌, true, ℕ, List, [], ◌∷◌, ◌++◌, refl, sym, ◌∙◌}
 use Rattle.std.specs.Prelude.{All, Bool, ◌↔◌}
 use Rattle.std.proofs.lemmas.List.Elements.{All-append, All-from_recursion}
-use Rattle.patterns.specs.Parts.{IsIn}
 use Rattle.gridded.specs.Grids.{Point}
 use Rattle.gridded.specs.Places.{fits_grid}
 use Rattle.gridded.specs.Small.{point_at, rising, falling}
@@ -10,6 +9,7 @@ use Rattle.tiling_core.specs.Tiles.{IsInGrid}
 use Rattle.tiling_core.specs.Patterns.{is_among}
 use Rattle.tiling_core.specs.Roots.{only_cell}
 use Rattle.tiling_core.proofs.GridCells.{among_decides}
+use Rattle.lists.specs.Members.{IsIn}
 
 pub IsInGrid-append : (w h : ℕ) (xs ys : List (List Point)) → IsInGrid w h xs → IsInGrid w h ys → IsInGrid w h (xs ++ ys)
 IsInGrid-append w h xs ys a b = All-append (λ g. fits_grid w h g ≡ true) xs ys a b

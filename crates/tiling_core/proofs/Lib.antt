@@ -7,6 +7,7 @@ pub mod Roots
 pub mod Single
 pub mod Minimal
 pub mod GridCells
+pub mod ActiveCells
 pub mod Further
 pub mod Joined
 mod Rows

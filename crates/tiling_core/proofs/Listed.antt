@@ -1,13 +1,14 @@
 -- A tiling's members of a length are listed once.
 use Rattle.std.proofs.Common.{ℕ, List}
 use Rattle.std.specs.List.{filter}
-use Rattle.patterns.specs.Parts.{IsIn, NoRepeats}
-use Rattle.patterns.proofs.Lists.{IsIn-filter, from_IsIn-filter, NoRepeats-filter}
 use Rattle.gridded.specs.Grids.{Point, gridded_of}
 use Rattle.gridded.proofs.GriddedLists.{IsIn-gridded_of, from_IsIn-gridded_of, NoRepeats-gridded_of}
 use Rattle.tiling_core.specs.Tiles.{Tiles, is_member}
 use Rattle.tiling_core.specs.Carried.{MemberOf}
 use Rattle.tiling_core.proofs.Deciding.{is_member_decides}
+use Rattle.lists.specs.Members.{IsIn, NoRepeats}
+use Rattle.lists.proofs.Members.{IsIn-filter, from_IsIn-filter}
+use Rattle.lists.proofs.Repeats.{NoRepeats-filter}
 
 -- the members of n points
 abbrev pub members : Tiles → ℕ → List (List Point)

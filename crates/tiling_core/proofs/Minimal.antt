@@ -1,27 +1,22 @@
 -- Obstructions that hold another one can go.
-use Rattle.std.proofs.Common.{◌≡◌, ◌<◌, ◌≤◌, ℕ, zero, suc, Bool, true, false, List, [], ◌∷◌, length, refl, sym, ap, ◌∙◌, subst, arith}
-use Rattle.std.specs.Prelude.{◌&&◌, not, nat_lt, ◌==◌, All}
-use Rattle.std.specs.List.{list_all, AllZip}
-use Rattle.std.proofs.lemmas.Bool.Decides.{Decides-eqb, nat_tests}
-use Rattle.std.proofs.lemmas.List.{length-map}
+use Rattle.std.proofs.Common.{◌≡◌, ◌<◌, ◌≤◌, ℕ, zero, suc, Bool, true, false, List, length, refl, ap, ◌∙◌, arith}
+use Rattle.std.specs.Prelude.{◌&&◌, not, nat_lt, All}
+use Rattle.std.specs.List.{list_all}
+use Rattle.std.proofs.lemmas.Bool.Decides.{nat_tests}
 use Rattle.std.proofs.lemmas.List.Elements.{All-head, All-tail}
-use Rattle.patterns.specs.Parts.{IsIn, IsPart}
+use Rattle.std.proofs.lemmas.Bool.{false_from_ne_true, and_parts, not-true, not_from_false}
 use Rattle.lists.specs.Members.IsIn.{here, later}
-use Rattle.lists.specs.Parts.IsPart.{none, kept, left_out}
-use Rattle.patterns.specs.Occurs.{IsSameOrder}
-use Rattle.patterns.proofs.Booleans.{and_true, not_true, not_false, same_test}
-use Rattle.patterns.proofs.Lists.{from_IsIn-map, IsIn-filter, from_IsIn-filter}
-use Rattle.patterns.proofs.PartLaws.{IsPart-itself}
-use Rattle.patterns.proofs.Compose.{Occurs-trans}
-use Rattle.gridded.specs.declared.cell.Cell.{Cell}
-use Rattle.gridded.specs.Grids.{Point, Holds, IsGridded, letter_of, same_cell, holds}
-use Rattle.gridded.specs.Orders.{letters_of, gridded_eq}
+use Rattle.lists.proofs.Tests.{which_passes, each_passes, all_pass, same_test}
+use Rattle.lists.specs.Members.{IsIn}
+use Rattle.lists.proofs.Members.{IsIn-filter, from_IsIn-filter}
+use Rattle.gridded.specs.Grids.{Point, Holds, IsGridded, holds}
+use Rattle.gridded.specs.Orders.{gridded_eq}
 use Rattle.gridded.specs.OrderLaws.{gridded_eq_decides}
 use Rattle.tiling_core.specs.Tiles.{AreGridded}
 use Rattle.gridded.specs.Places.{fits_grid}
 use Rattle.tiling_core.specs.Patterns.{holds_another, minimal, with_minimal}
 use Rattle.tiling_core.specs.Counts.{MinimalKeepsMembers, MinimalKeepsCounts}
-use Rattle.tiling_core.proofs.Deciding.{one_passes, each_passes, all_pass, not_held, false_from}
+use Rattle.tiling_core.proofs.Deciding.{not_held}
 use Rattle.gridded.proofs.Holding.{holds_decides, Holds-itself, Holds-trans, Holds-as_long}
 use Rattle.tiling_core.proofs.Ordered.{holds_each, is_member-tiling_of}
 use Rattle.tiling_core.proofs.Counted.{same_members_count}
@@ -50,22 +45,22 @@ holds_minimal patterns a zero p l m = absurd (omega arith)
 holds_minimal patterns a (suc k) p l m = go (holds_another patterns p) refl (λ q s n. holds_minimal patterns a k q s n)
   where
     go : (b : Bool) → holds_another patterns p ≡ b → ((q : List Point) → length q < k → IsIn q patterns → (r : List Point) × IsIn r (minimal patterns) × Holds q r) → (q : List Point) × IsIn q (minimal patterns) × Holds p q
-    go false e ih = (p, IsIn-filter (λ g. not (holds_another patterns g)) m (not_false (holds_another patterns p) e), Holds-itself p)
+    go false e ih = (p, IsIn-filter (λ g. not (holds_another patterns g)) m (not_from_false (holds_another patterns p) e), Holds-itself p)
     go true e ih =
-        let other = one_passes (λ q. not (gridded_eq p q) && holds p q) patterns e in
-        let tests = and_true (not (gridded_eq p other.0)) (holds p other.0) other.2 in
+        let other = which_passes (λ q. not (gridded_eq p q) && holds p q) patterns e in
+        let tests = and_parts (not (gridded_eq p other.0)) (holds p other.0) other.2 in
         let held = (holds_decides p other.0).0 tests.1 in
-        let shorter = held_shorter p other.0 (each_of (λ g. IsGridded g) m a) (each_of (λ g. IsGridded g) other.1 a) held (not_true (gridded_eq p other.0) tests.0) in
+        let shorter = held_shorter p other.0 (each_of (λ g. IsGridded g) m a) (each_of (λ g. IsGridded g) other.1 a) held (not-true (gridded_eq p other.0) tests.0) in
         let least = ih other.0 (omega arith) other.1 in
         (least.0, least.1, Holds-trans p other.0 least.0 held least.2)
 
 -- ---- members
 none_of_minimal : (patterns : List (List Point)) → AreGridded patterns → (g : List Point) → list_all (λ p. not (holds g p)) (minimal patterns) ≡ list_all (λ p. not (holds g p)) patterns
 none_of_minimal patterns a g = same_test (list_all test (minimal patterns)) (list_all test patterns)
-    (λ e. all_pass test patterns (λ p m. not_false (holds g p) (false_from (holds g p) (λ h.
+    (λ e. all_pass test patterns (λ p m. not_from_false (holds g p) (false_from_ne_true (holds g p) (λ h.
     let least = holds_minimal patterns a (suc (length p)) p (omega arith) m in
-    not_held (holds g least.0) (each_passes test least.1 e) ((holds_decides g least.0).1 (Holds-trans g p least.0 ((holds_decides g p).0 h) least.2))))))
-    (λ e. all_pass test (minimal patterns) (λ p m. each_passes test (from_IsIn-filter (λ h. not (holds_another patterns h)) patterns m).0 e))
+    not_held (holds g least.0) (each_passes test e least.1) ((holds_decides g least.0).1 (Holds-trans g p least.0 ((holds_decides g p).0 h) least.2))))))
+    (λ e. all_pass test (minimal patterns) (λ p m. each_passes test e (from_IsIn-filter (λ h. not (holds_another patterns h)) patterns m).0))
   where
     test : List Point → Bool
     test p = not (holds g p)

@@ -4,13 +4,12 @@ use Rattle.std.specs.Prelude.{◌&&◌, not, map, nat_lt}
 use Rattle.std.specs.List.{filter, list_all, AllByRecursion}
 use Rattle.std.proofs.lemmas.List.{length-map, map_push}
 use Rattle.std.proofs.lemmas.List.Folds.{list_all-map}
-use Rattle.patterns.specs.Parts.{IsIn}
+use Rattle.std.proofs.Math.Bool.{and-false, and-true}
+use Rattle.std.proofs.lemmas.Bool.{and_from}
 use Rattle.patterns.specs.Words.{all_perms, has_no_repeats}
 use Rattle.patterns.specs.Occurs.{contains, avoids, stand_alike, stands_as}
 use Rattle.patterns.specs.Search.{is_found}
 use Rattle.patterns.specs.Laws.{IsPermutationOf}
-use Rattle.patterns.proofs.Booleans.{and_none, and_end, both_true}
-use Rattle.patterns.proofs.Lists.{IsIn-filter, from_IsIn-filter, NoRepeats-filter, length-from_inverse}
 use Rattle.patterns.proofs.NoRepeat.{NoRepeats-all_perms, perm_is_listed, listed_is_perm}
 use Rattle.patterns.proofs.Searches.{found_from_start}
 use Rattle.gridded.specs.Grids.{Point, letter_of, same_cell, holds, may_follow, is_consistent}
@@ -23,7 +22,12 @@ use Rattle.tiling_core.specs.Roots.{in_one_cell, only_cell, root_of}
 use Rattle.tiling_core.specs.Counts.{RootCountsAvoiders}
 use Rattle.tiling_core.proofs.Deciding.{is_member_decides}
 use Rattle.tiling_core.proofs.Listed.{members, member_is_listed, listed_is_member, NoRepeats-members}
-use Rattle.tiling_core.proofs.Ordered.{is_member-tiling_of, list_all-agree}
+use Rattle.tiling_core.proofs.Ordered.{is_member-tiling_of}
+use Rattle.lists.proofs.Tests.{list_all-agree}
+use Rattle.lists.specs.Members.{IsIn}
+use Rattle.lists.proofs.Members.{IsIn-filter, from_IsIn-filter}
+use Rattle.lists.proofs.Repeats.{NoRepeats-filter}
+use Rattle.lists.proofs.Injections.{length-from_inverse}
 
 abbrev put : ℕ → Point
 put l = record { letter = l; cell = only_cell }
@@ -57,7 +61,7 @@ pub holds_in_one_cell : (w p : List ℕ) → holds (in_one_cell w) (in_one_cell 
 holds_in_one_cell w p = sym (found_from_start letter_of same_cell (in_one_cell w) (in_one_cell p)) ∙ found_in_one_cell [] [] w p ∙ found_from_start (λ l. l) (λ _ _. true) w p
 
 -- ---- members
-fits_one_cell : (w : List ℕ) → fits_grid 1 1 (in_one_cell w) ≡ true
+pub fits_one_cell : (w : List ℕ) → fits_grid 1 1 (in_one_cell w) ≡ true
 fits_one_cell [] = refl
 fits_one_cell (l ∷ w) = fits_one_cell w
 
@@ -65,20 +69,20 @@ pub root_members : (basis : List (List ℕ)) (w : List ℕ) → is_member (root_
 root_members basis w =
     is_member-tiling_of 1 1 (map in_one_cell basis) [] (in_one_cell w)
     ∙ ap (λ b. b && (list_all (λ p. not (holds (in_one_cell w) p)) (map in_one_cell basis) && true)) (fits_one_cell w)
-    ∙ and_end (list_all (λ p. not (holds (in_one_cell w) p)) (map in_one_cell basis))
+    ∙ and-true (list_all (λ p. not (holds (in_one_cell w) p)) (map in_one_cell basis))
     ∙ list_all-map (λ p. not (holds (in_one_cell w) p)) in_one_cell basis
-    ∙ list_all-agree (λ p. not (holds (in_one_cell w) (in_one_cell p))) (λ p. not (contains w p)) (λ p. ap not (holds_in_one_cell w p)) basis
+    ∙ list_all-agree (λ p. not (holds (in_one_cell w) (in_one_cell p))) (λ p. not (contains w p)) basis (λ p _. ap not (holds_in_one_cell w p))
 
 follows_in_one_cell : (l m : ℕ) → may_follow (put l) (put m) ≡ true
-follows_in_one_cell l m = rw (and_none (nat_lt l m), and_none (nat_lt m l))
+follows_in_one_cell l m = rw (and-false (nat_lt l m), and-false (nat_lt m l))
 
-all_follow : (l : ℕ) (w : List ℕ) → list_all (λ q. may_follow (put l) q) (in_one_cell w) ≡ true
+pub all_follow : (l : ℕ) (w : List ℕ) → list_all (λ q. may_follow (put l) q) (in_one_cell w) ≡ true
 all_follow l [] = refl
-all_follow l (m ∷ w) = both_true (may_follow (put l) (put m)) (list_all (λ q. may_follow (put l) q) (in_one_cell w)) (follows_in_one_cell l m) (all_follow l w)
+all_follow l (m ∷ w) = and_from (may_follow (put l) (put m)) (list_all (λ q. may_follow (put l) q) (in_one_cell w)) (follows_in_one_cell l m) (all_follow l w)
 
-consistent_in_one_cell : (w : List ℕ) → is_consistent (in_one_cell w) ≡ true
+pub consistent_in_one_cell : (w : List ℕ) → is_consistent (in_one_cell w) ≡ true
 consistent_in_one_cell [] = refl
-consistent_in_one_cell (l ∷ w) = both_true (list_all (λ q. may_follow (put l) q) (in_one_cell w)) (is_consistent (in_one_cell w)) (all_follow l w) (consistent_in_one_cell w)
+consistent_in_one_cell (l ∷ w) = and_from (list_all (λ q. may_follow (put l) q) (in_one_cell w)) (is_consistent (in_one_cell w)) (all_follow l w) (consistent_in_one_cell w)
 
 pub perm_of_gridded : (w h n : ℕ) (g : List Point) → IsGriddedOf w h n g → IsPermutationOf n (letters_of g)
 perm_of_gridded w h n g k = record { as_long = length-map g letter_of ∙ k.as_long; below = k.below; distinct = k.distinct }

@@ -1,29 +1,26 @@
 -- The tilings with one member or none.
-use Rattle.std.proofs.Common.{◌≡◌, ◌<◌, ◌≤◌, ℕ, zero, suc, Bool, true, false, List, [], ◌∷◌, length, refl, sym, ◌∙◌, subst, arith, inl, inr, ⊎_elim}
+use Rattle.std.proofs.Common.{◌≡◌, ◌<◌, ◌≤◌, ℕ, zero, suc, Bool, true, false, List, [], ◌∷◌, refl, sym, ◌∙◌, subst, arith, inl, inr, ⊎_elim}
 use Rattle.std.specs.Prelude.{◌||◌, ◌⊎◌, not, map, nat_lt, ◌==◌}
 use Rattle.std.specs.List.{list_any}
 use Rattle.std.proofs.lemmas.Bool.Decides.{nat_tests, Decides-eqb}
-use Rattle.patterns.specs.Parts.{IsIn, IsPart}
+use Rattle.std.proofs.lemmas.Bool.{and_parts}
 use Rattle.lists.specs.Members.IsIn.{here, later}
-use Rattle.lists.specs.Parts.IsPart.{none, kept, left_out}
+use Rattle.lists.specs.Parts.IsPart.{kept}
+use Rattle.lists.proofs.Members.{empty_list}
+use Rattle.lists.specs.Parts.{IsPart}
+use Rattle.lists.proofs.Parts.{IsPart-nothing}
 use Rattle.patterns.specs.Words.{has_no_repeats}
-use Rattle.patterns.specs.Occurs.{occurs, is_match}
-use Rattle.patterns.proofs.Booleans.{and_true, both_true}
-use Rattle.patterns.proofs.PartLaws.{IsPart-nothing}
+use Rattle.patterns.specs.Occurs.{occurs}
 use Rattle.gridded.specs.declared.cell.Cell.{Cell}
 use Rattle.gridded.proofs.Holding.{Holds-empty}
 use Rattle.gridded.proofs.Pairs.{rising_held, falling_held}
-use Rattle.gridded.specs.Grids.{Point, Holds, letter_of, same_cell}
+use Rattle.gridded.specs.Grids.{Point, Holds, letter_of}
 use Rattle.tiling_core.specs.Tiles.{Tiles, count}
 use Rattle.tiling_core.specs.Carried.{MemberOf}
 use Rattle.gridded.specs.Small.{rising, falling}
 use Rattle.tiling_core.specs.Roots.{only_cell, unit_tiling, point_tiling, void_tiling, one_at}
 use Rattle.tiling_core.specs.Counts.{UnitHasOneMember, PointHasOneMember, VoidHasNoMember}
 use Rattle.tiling_core.proofs.Listed.{members, listed_is_member}
-
-empty_list : {X : Type 0} (xs : List X) → ((x : X) → IsIn x xs → ⊥) → length xs ≡ 0
-empty_list [] f = refl
-empty_list (x ∷ xs) f = absurd (f x here)
 
 pub count_without_members : (t : Tiles) (n : ℕ) → ((g : List Point) → ¬ (MemberOf t n g)) → count t n ≡ 0
 count_without_members t n f = empty_list (members t n) (λ g m. f g (listed_is_member t n g m))
@@ -68,7 +65,7 @@ no_two_points (p ∷ []) n k = let e : 1 ≡ suc (suc n) = k.gridded.as_long in 
 no_two_points (p ∷ q ∷ g) n k =
     let a = in_one_cell p k.gridded.in_grid.0 in
     let b = in_one_cell q k.gridded.in_grid.1.0 in
-    let apart : ¬ (p.letter ≡ q.letter) = differ p.letter q.letter (list_any (λ y. p.letter == y) (map letter_of g)) (and_true (not (list_any (λ y. p.letter == y) (map letter_of (q ∷ g)))) (has_no_repeats (map letter_of (q ∷ g))) k.gridded.distinct).0 in
+    let apart : ¬ (p.letter ≡ q.letter) = differ p.letter q.letter (list_any (λ y. p.letter == y) (map letter_of g)) (and_parts (not (list_any (λ y. p.letter == y) (map letter_of (q ∷ g)))) (has_no_repeats (map letter_of (q ∷ g))) k.gridded.distinct).0 in
     ⊎_elim {C = ⊥} (λ l. k.member.no_obstruction (rising only_cell only_cell) here (two_rise p q g a b l)) (λ l. k.member.no_obstruction (falling only_cell only_cell) (later (rising only_cell only_cell) here) (two_fall p q g a b l)) (ordered p.letter q.letter apart)
   where
     ordered : (x y : ℕ) → ¬ (x ≡ y) → (x < y) ⊎ (y < x)

@@ -1,9 +1,9 @@
 -- Whether a tiling's requirements ask for a point, and for how many points at most.
 use Rattle.std.specs.Prelude.{ℕ, Bool, true, false, not, List, [], ◌∷◌, length, fold, sum_by, max}
 use Rattle.std.specs.List.{list_any}
-use Rattle.patterns.specs.Parts.{IsIn}
 use Rattle.gridded.specs.Grids.{Point}
 use Rattle.tiling_core.specs.Tiles.{Tiles}
+use Rattle.lists.specs.Members.{IsIn}
 
 -- some requirement list has no empty pattern, so that each member has a point
 pub record Positive (t : Tiles) : Type 0 where

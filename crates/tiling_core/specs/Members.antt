@@ -1,8 +1,8 @@
 -- The members of a tiling.
 use Rattle.std.specs.Prelude.{◌<◌, List, Decides}
-use Rattle.patterns.specs.Parts.{IsIn}
 use Rattle.gridded.specs.Grids.{Point, holds, Holds}
 use Rattle.tiling_core.specs.Tiles.{Tiles, is_member}
+use Rattle.lists.specs.Members.{IsIn}
 
 -- g holds one of the patterns
 pub record HoldsOneOf (g : List Point) (patterns : List (List Point)) : Type 0 where

@@ -8,8 +8,8 @@ use Rattle.gridded.specs.Small.{point_at}
 use Rattle.gridded.specs.CellSets.{is_among as has_cell}
 use Rattle.gridded.specs.Laws.{IsCellOf}
 use Rattle.gridded.specs.Orders.{gridded_eq}
-use Rattle.patterns.specs.Parts.{IsIn}
 use Rattle.tiling_core.specs.Tiles.{Tiles, tiling_of}
+use Rattle.lists.specs.Members.{IsIn}
 
 abbrev pub is_among : List (List Point) → List Point → Bool
 is_among patterns g = list_any (gridded_eq g) patterns

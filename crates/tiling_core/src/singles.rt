@@ -1,8 +1,8 @@
 // The tilings with one member or none, and the test of an obstruction.
 ghost use Rattle.std.specs.Prelude.{◌≡◌, ◌↔◌, IfOk, IsTrue};
-ghost use Rattle.patterns.specs.Parts.{IsIn};
 ghost use Rattle.tiling_core.specs.Patterns.{is_among, forbids};
 ghost use Rattle.tiling_core.specs.Roots.{unit_tiling, point_tiling, void_tiling};
+ghost use Rattle.lists.specs.Members.{IsIn};
 
 use crate::tiling::Tiling;
 use gridded::{Cell, Gridded};

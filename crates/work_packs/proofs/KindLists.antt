@@ -2,17 +2,16 @@
 use Rattle.std.proofs.Common.{◌≡◌, ◌≢◌, ◌<◌, ◌≤◌, ℕ, Bool, true, false, List, [], ◌∷◌, ◌++◌, length, refl, ap, ◌∙◌, arith, append-nil}
 use Rattle.std.specs.Prelude.{◌&&◌, ◌==◌, not, nat_le, filter}
 use Rattle.std.proofs.lemmas.Bool.Decides.{nat_tests}
-use Rattle.patterns.specs.Parts.{IsIn}
-use Rattle.lists.specs.Members.IsIn.{here, later}
-use Rattle.patterns.proofs.Booleans.{and_none}
-use Rattle.patterns.proofs.Lists.{from_IsIn-map, from_IsIn-filter}
+use Rattle.std.proofs.Math.Bool.{and-false}
+use Rattle.lists.proofs.Filters.{filter_all}
+use Rattle.lists.specs.Members.{IsIn, is_nil}
+use Rattle.lists.proofs.Members.{from_IsIn-map, from_IsIn-filter}
 use Rattle.gridded.specs.declared.cell.Cell.{Cell}
 use Rattle.gridded.specs.Grids.{Point}
 use Rattle.tiling_core.specs.Tiles.{Tiles}
 use Rattle.tiling_core.specs.Measures.{weight}
 use Rattle.gridded.specs.Small.{point_at}
 use Rattle.tiling_core.specs.Patterns.{active_cells, requires_list}
-use Rattle.steps.specs.Steps.{is_nil}
 use Rattle.emptiness.proofs.SmallPatterns.{active-in_grid}
 use Rattle.rule_kinds.specs.declared.kind.Kind.{Kind}
 use Rattle.rule_kinds.specs.declared.kind.Kind.TheVariants as kind
@@ -53,10 +52,6 @@ pub none_listed : (len n : ℕ) (empty : Bool) → empty ≡ (len == 0) → len 
 none_listed len n empty e l f = grind (arith, nat_tests)
 
 -- ---- insertions
-filter_all : {X : Type 0} (p : X → Bool) (xs : List X) → ((x : X) → IsIn x xs → p x ≡ true) → filter p xs ≡ xs
-filter_all p [] f = refl
-filter_all p (x ∷ xs) f = rw (f x here) (ap (λ ys. x ∷ ys) (filter_all p xs (λ y m. f y (later x m))))
-
 insertion_applies : (t : Tiles) (c : Cell) → IsIn c (active_cells t) → applies t (kind.Insert (point_at c)) ≡ true
 unfolding D.applies
 insertion_applies t c m = rw (active-in_grid t c m) refl
@@ -95,7 +90,7 @@ pub no_inferral_heavy : (t : Tiles) → 4 < weight t → [] ≡ inferrals t
 no_inferral_heavy t h = let e : nat_le (weight t) 4 ≡ false = grind (arith, nat_tests) in rw e refl
 
 pub no_inferral_wide : (t : Tiles) → 16 < length (active_cells t) → [] ≡ inferrals t
-no_inferral_wide t h = let e : nat_le (length (active_cells t)) 16 ≡ false = grind (arith, nat_tests) in rw (e, and_none (nat_le (weight t) 4)) refl
+no_inferral_wide t h = let e : nat_le (length (active_cells t)) 16 ≡ false = grind (arith, nat_tests) in rw (e, and-false (nat_le (weight t) 4)) refl
 
 pub inferral_listed : (t : Tiles) (patterns : List (List Point)) (kinds : List Kind) → patterns ≡ inferred t → weight t ≤ 4 → length (active_cells t) ≤ 16 → kinds ≡ when (not (is_nil patterns)) (kind.Infer patterns ∷ []) → kinds ≡ inferrals t
 inferral_listed t patterns kinds h light narrow e =

@@ -8,10 +8,10 @@ use Rattle.std.proofs.lemmas.List.Concat.{length-flat_map}
 use Rattle.std.proofs.lemmas.List.Elements.{All-from_recursion}
 use Rattle.std.proofs.lemmas.List.FromFn.{length-map-range_with_len, length-range_with_len}
 use Rattle.std.proofs.lemmas.List.Sums.{sum_by-le}
-use Rattle.patterns.specs.Parts.{IsIn}
+use Rattle.std.proofs.lemmas.Bool.{and_parts, and_from}
 use Rattle.lists.specs.Members.IsIn.{here, later}
-use Rattle.patterns.proofs.Booleans.{and_true, both_true}
-use Rattle.patterns.proofs.Lists.{from_IsIn-map, from_IsIn-filter, IsIn-append_cases}
+use Rattle.lists.specs.Members.{IsIn, is_nil}
+use Rattle.lists.proofs.Members.{from_IsIn-map, from_IsIn-filter, IsIn-append_cases}
 use Rattle.gridded.specs.declared.cell.Cell.{Cell}
 use Rattle.gridded.specs.Grids.{Point, IsGridded, gridded_of, cells_in}
 use Rattle.gridded.specs.Orders.{gridded_cmp, letters_of}
@@ -23,7 +23,6 @@ use Rattle.tiling_core.specs.Tiles.{Tiles, IsTiling, AreGridded}
 use Rattle.tiling_core.specs.Measures.{weight}
 use Rattle.gridded.specs.Small.{point_at}
 use Rattle.tiling_core.specs.Patterns.{forbids, active_cells, requires_list}
-use Rattle.steps.specs.Steps.{is_nil}
 use Rattle.gridded.proofs.SmallFits.{fit-point}
 use Rattle.rule_kinds.specs.declared.kind.Kind.{Kind}
 use Rattle.rule_kinds.specs.declared.kind.Kind.TheVariants as kind
@@ -123,7 +122,7 @@ all_pass_filter p (x ∷ xs) = go (p x) refl (all_pass_filter p xs)
 inferral_applies : (t : Tiles) → nat_le (weight t) 4 ≡ true → not (is_nil (inferred t)) ≡ true → applies t (kind.Infer (inferred t)) ≡ true
 unfolding D.applies
 inferral_applies t light some =
-    both_true _ _ (both_true _ _ (both_true _ _ some (in_order_ascending (filter (is_inferable t) (gridded_of t.width t.height 1 ++ gridded_of t.width t.height 2)))) light)
+    and_from _ _ (and_from _ _ (and_from _ _ some (in_order_ascending (filter (is_inferable t) (gridded_of t.width t.height 1 ++ gridded_of t.width t.height 2)))) light)
     (list_all-in_order gridded_cmp gridded_total gridded_exact (is_inferable t) (filter (is_inferable t) (gridded_of t.width t.height 1 ++ gridded_of t.width t.height 2))
     ∙ all_pass_filter (is_inferable t) (gridded_of t.width t.height 1 ++ gridded_of t.width t.height 2))
 
@@ -134,7 +133,7 @@ inferral_tried t light some = record { applies = inferral_applies t light some; 
 inferrals_tried : (t : Tiles) → Each (IsTried t) (inferrals t)
 inferrals_tried t =
     each_when (IsTried t) (nat_le (weight t) 4 && nat_le (length (active_cells t)) 16) (when (not (is_nil (inferred t))) (kind.Infer (inferred t) ∷ []))
-    (λ e. each_when (IsTried t) (not (is_nil (inferred t))) (kind.Infer (inferred t) ∷ []) (λ f k m. alone k m (inferral_tried t (and_true (nat_le (weight t) 4) _ e).0 f)))
+    (λ e. each_when (IsTried t) (not (is_nil (inferred t))) (kind.Infer (inferred t) ∷ []) (λ f k m. alone k m (inferral_tried t (and_parts (nat_le (weight t) 4) _ e).0 f)))
   where
     alone : (k : Kind) → IsIn k (kind.Infer (inferred t) ∷ []) → IsTried t (kind.Infer (inferred t)) → IsTried t k
     alone _ here h = h

@@ -3,12 +3,12 @@ use Rattle.std.specs.Prelude.{not, ◌&&◌, nat_le, List, [], ◌∷◌, filter
 use Rattle.tiling_core.specs.Tiles.{Tiles}
 use Rattle.tiling_core.specs.Measures.{weight}
 use Rattle.tiling_core.specs.Patterns.{active_cells}
-use Rattle.steps.specs.Steps.{is_nil}
 use Rattle.rule_kinds.specs.declared.kind.Kind.{Kind}
 use Rattle.rule_kinds.specs.declared.kind.Kind.TheVariants as kind
 use Rattle.rule_kinds.specs.Conditions.{applies}
 use Rattle.emptiness.specs.Inferable.{inferred}
 use Rattle.rule_kinds.specs.Choices.{when, first_that_is}
+use Rattle.lists.specs.Members.{is_nil}
 
 -- the kinds without children: that of the unit or the point tiling, and else that of a tiling without members
 abbrev pub closing_kinds : Tiles → List Kind

@@ -2,8 +2,8 @@
 use Rattle.std.specs.Prelude.{ℕ, Bool, not, ◌&&◌, ◌==◌, if◌then◌else◌, List, Option, Some, None, codes}
 use Rattle.std.specs.List.{list_any, list_all}
 use Rattle.patterns.specs.Words.{has_no_repeats}
-use Rattle.steps.specs.Steps.{is_nil}
 use Rattle.rule_kinds.specs.Choices.{Packs}
+use Rattle.lists.specs.Members.{is_nil}
 
 abbrev pub Text : Type 0
 Text = List ℕ

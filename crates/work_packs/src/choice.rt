@@ -1,9 +1,9 @@
 ghost use Rattle.std.specs.Prelude.{◌≡◌, ◌++◌, ◌∷◌, [], IfOk, OnOk, filter, not};
-ghost use Rattle.steps.specs.Steps.{is_nil};
 ghost use Rattle.rule_kinds.specs.Built.{applies_now};
 ghost use Rattle.rule_kinds.specs.Choices.{insertions, kinds_of, when};
 ghost use Rattle.work_packs.specs.BuiltLetters.{HasOnlyIAndN};
 ghost use Rattle.work_packs.specs.KindLines.{closing_kinds, inferrals};
+ghost use Rattle.lists.specs.Members.{is_nil};
 
 use crate::pack::Packs;
 use emptiness::{InferFault, inferred};

@@ -1,6 +1,5 @@
 -- The laws that make tilings and their rules a domain.
 use Rattle.std.proofs.Common.{◌≡◌, true, List, [], ◌∷◌, length, refl, arith, suc, subst}
-use Rattle.patterns.specs.Parts.{IsIn}
 use Rattle.patterns.specs.Occurs.{occurs}
 use Rattle.gridded.specs.Grids.{Point, holds}
 use Rattle.tiling_core.specs.Tiles.{Tiles, count}
@@ -19,6 +18,7 @@ use Rattle.rule_kinds.specs.Carried.{MembersAreCarried}
 use Rattle.rule_kinds.specs.Counting.{RulesCount}
 use Rattle.tile_rules.specs.Laws.Carrying.{members_are_carried}
 use Rattle.tile_rules.specs.Laws.RuleCounts.{rules_count}
+use Rattle.lists.specs.Members.{IsIn}
 
 do_carry : MembersAreCarried
 do_carry = members_are_carried insertions_carry_members (inferrals_carry_members members_within_weight) (voids_carry_members members_within_weight)

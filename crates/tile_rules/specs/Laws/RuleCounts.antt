@@ -4,7 +4,7 @@ use Rattle.std.specs.Prelude.{map, zip, Option, Some, sum_by}
 use Rattle.std.specs.List.{AllByRecursion}
 use Rattle.std.proofs.lemmas.List.Sums.{sum_by-cons}
 use Rattle.std.proofs.lemmas.List.Elements.{recursion_from_All}
-use Rattle.patterns.proofs.Booleans.{and_true}
+use Rattle.std.proofs.lemmas.Bool.{and_parts}
 use Rattle.tiling_core.specs.Tiles.{Tiles, IsTiling, count}
 use Rattle.tiling_core.specs.Carried.{CountsAddUp}
 use Rattle.tiling_core.specs.Counts.{UnitHasOneMember, PointHasOneMember}
@@ -20,7 +20,7 @@ use Rattle.rule_kinds.specs.declared.kind.Kind.TheVariants as kind
 use Rattle.rule_kinds.specs.Children.{raw_children}
 use Rattle.rule_kinds.specs.Conditions as D
 use Rattle.rule_kinds.specs.Conditions.{applies}
-use Rattle.emptiness.specs.Inferable.{has_no_member, is_inferable}
+use Rattle.emptiness.specs.Inferable.{has_no_member}
 use Rattle.rule_kinds.specs.Built.{is_built}
 use Rattle.css_domain.specs.declared.Shape.TheVariants.{Union}
 use Rattle.rule_kinds.specs.Kinds.{shape_of}
@@ -63,7 +63,7 @@ point_counts one r f e n = let same : r.parent ≡ point_tiling = (tiles_eq_deci
 
 void_counts : MembersWithinWeight → (r : TilingRule) → Follows r → r.kind ≡ kind.Void → CountsCombine r
 unfolding D.applies
-void_counts within r f e n = rw e (none_of_any_length within r.parent (and_true _ (has_no_member r.parent) (rw e at (applying r.parent r.kind f.condition))).1 n)
+void_counts within r f e n = rw e (none_of_any_length within r.parent (and_parts _ (has_no_member r.parent) (rw e at (applying r.parent r.kind f.condition))).1 n)
 
 -- where each member has one image, the raw children have as many members together
 union_counts : CountsAddUp → MembersAreCarried → ReplaysKeepMembers → (r : TilingRule) → Follows r → has_one_image r.kind ≡ true → shape_of r.kind ≡ Union → CountsCombine r

@@ -1,12 +1,12 @@
 -- The least fresh class is the next.
 use Rattle.std.proofs.Common.{◌≡◌, ℕ, sym, ◌∙◌, ap, subst, arith, length, Some}
 use Rattle.std.specs.Prelude.{slice_get}
-use Rattle.patterns.specs.Parts.{IsIn}
 use Rattle.css_domain.specs.Ledgers.{Books, with_work, with_filing, classes}
 use Rattle.css_domain.specs.LedgerFacts.{IsFilingOf}
 use Rattle.css_crew.specs.Ways.{IsExpansion}
 use Rattle.css_crew.proofs.Turns.{claimed_work, claimed_idle, claimed_spent, claimed_finished, claimed_filed, claimed_out}
 use Rattle.css_crew.proofs.alone.file_next.Goals as goal
+use Rattle.lists.specs.Members.{IsIn}
 
 pub class-requires-clause-number : goal.class-requires-clause-number
 class-requires-clause-number g c =

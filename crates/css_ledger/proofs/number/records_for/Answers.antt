@@ -1,8 +1,9 @@
 -- Rule by rule.
 use Rattle.std.proofs.Common.{◌++◌, ◌∷◌, [], length, take, ap, ◌∙◌, arith}
 use Rattle.std.specs.Prelude.{flat_map}
-use Rattle.css_ledger.proofs.Numbering.{few_by_rules, restored, restored_within, rule_added, take_one_more, on_err, some_at}
+use Rattle.css_ledger.proofs.Numbering.{few_by_rules, restored, restored_within, rule_added, take_one_more, on_err}
 use Rattle.css_ledger.proofs.number.records_for.Goals as goal
+use Rattle.lists.proofs.Places.{some_at}
 
 pub record_for-requires-clause-few : goal.record_for-requires-clause-few
 record_for-requires-clause-few g c =

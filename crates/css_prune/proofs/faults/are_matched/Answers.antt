@@ -1,8 +1,9 @@
-use Rattle.std.proofs.Common.{◌≡◌, length, refl, ap, ◌∙◌, arith}
+use Rattle.std.proofs.Common.{length, refl, ap, arith}
 use Rattle.css_domain.specs.Entries.{Entry}
 use Rattle.css_prune.specs.Faults.{IsMatched}
-use Rattle.css_prune.proofs.FirstFaults.{slot_more, never, not_both}
+use Rattle.css_prune.proofs.FirstFaults.{never, not_both}
 use Rattle.css_prune.proofs.faults.are_matched.Goals as goal
+use Rattle.lists.proofs.Numbers.{up_to_next}
 
 pub returns-then-not-is_matched : goal.returns-then-not-is_matched
 returns-then-not-is_matched g c =
@@ -12,7 +13,7 @@ returns-then-not-is_matched g c =
     )
 
 pub loop-slot-preserved : goal.loop-slot-preserved
-loop-slot-preserved g c = slot_more (IsMatched g.D.Domain.meaning c.args.entries.now c.args.entry.now) c.loop-slot.slot c.loop-slot.invariant (c.is_matched.ensures.0 c.if-not-is_matched.false)
+loop-slot-preserved g c = up_to_next (IsMatched g.D.Domain.meaning c.args.entries.now c.args.entry.now) c.loop-slot.slot c.loop-slot.invariant (c.is_matched.ensures.0 c.if-not-is_matched.false)
 
 pub returns : goal.returns
 returns g c =

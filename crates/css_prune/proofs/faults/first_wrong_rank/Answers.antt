@@ -1,10 +1,10 @@
-use Rattle.std.proofs.Common.{◌≡◌, List, ℕ, get_or, sym, ap, ◌∙◌, arith}
-use Rattle.std.specs.Prelude.{slice_get, Some}
+use Rattle.std.proofs.Common.{List, ℕ, get_or, sym, ap, ◌∙◌, arith}
+use Rattle.std.specs.Prelude.{Some}
 use Rattle.css_domain.specs.Entries.{Entry}
 use Rattle.css_prune.specs.Faults.{AreRanksRight}
-use Rattle.css_prune.proofs.Steps.{some_at}
 use Rattle.css_prune.proofs.FirstFaults.{before_more, number_at}
 use Rattle.css_prune.proofs.faults.first_wrong_rank.Goals as goal
+use Rattle.lists.proofs.Places.{some_at}
 
 pub first_wrong_slot-requires-clause-as_many : goal.first_wrong_slot-requires-clause-as_many
 first_wrong_slot-requires-clause-as_many g c =

@@ -1,8 +1,8 @@
-use Rattle.std.proofs.Common.{◌≡◌, arith}
+use Rattle.std.proofs.Common.{arith}
 use Rattle.css_prune.specs.Faults.{IsRuleRight}
-use Rattle.css_prune.proofs.Steps.{some_at}
 use Rattle.css_prune.proofs.FirstFaults.{before_more, not_both}
 use Rattle.css_prune.proofs.faults.first_wrong_rule.Goals as goal
+use Rattle.lists.proofs.Places.{some_at}
 
 pub returns-then-not-is_rule_right-clause-some : goal.returns-then-not-is_rule_right-clause-some
 returns-then-not-is_rule_right-clause-some g c =

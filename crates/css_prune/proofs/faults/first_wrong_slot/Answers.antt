@@ -1,8 +1,9 @@
-use Rattle.std.proofs.Common.{◌≡◌, length, ap, ◌∙◌, arith}
+use Rattle.std.proofs.Common.{length, ap, arith}
 use Rattle.css_domain.specs.Entries.{Entry}
 use Rattle.css_prune.specs.Faults.{IsRankRight}
-use Rattle.css_prune.proofs.FirstFaults.{slot_more, not_both}
+use Rattle.css_prune.proofs.FirstFaults.{not_both}
 use Rattle.css_prune.proofs.faults.first_wrong_slot.Goals as goal
+use Rattle.lists.proofs.Numbers.{up_to_next}
 
 pub is_rank_right-requires-clause-matched : goal.is_rank_right-requires-clause-matched
 is_rank_right-requires-clause-matched g c =
@@ -24,7 +25,7 @@ returns-then-not-is_rank_right-clause-some g c =
     }
 
 pub loop-slot-preserved : goal.loop-slot-preserved
-loop-slot-preserved g c = slot_more (IsRankRight g.D.Domain.meaning c.args.entries.now c.args.entry.now) c.loop-slot.slot c.loop-slot.invariant (c.is_rank_right.ensures.0 c.if-not-is_rank_right.false)
+loop-slot-preserved g c = up_to_next (IsRankRight g.D.Domain.meaning c.args.entries.now c.args.entry.now) c.loop-slot.slot c.loop-slot.invariant (c.is_rank_right.ensures.0 c.if-not-is_rank_right.false)
 
 pub returns-clause-none : goal.returns-clause-none
 returns-clause-none g c =

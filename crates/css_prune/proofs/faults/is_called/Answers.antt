@@ -1,9 +1,9 @@
-use Rattle.std.proofs.Common.{◌≡◌, List, ℕ, refl, sym, ap, subst, ◌∙◌, arith}
-use Rattle.patterns.specs.Parts.{IsIn}
+use Rattle.std.proofs.Common.{List, ℕ, refl, sym, ap, subst, ◌∙◌, arith}
 use Rattle.css_domain.specs.Entries.{Entry}
-use Rattle.css_prune.proofs.Steps.{some_at}
 use Rattle.css_prune.proofs.FirstFaults.{before_more, never, not_both, from_any, any_from}
 use Rattle.css_prune.proofs.faults.is_called.Goals as goal
+use Rattle.lists.proofs.Places.{some_at}
+use Rattle.lists.specs.Members.{IsIn}
 
 pub returns-then-contains : goal.returns-then-contains
 returns-then-contains g c = (

@@ -1,9 +1,9 @@
 use Rattle.std.proofs.Common.{◌≡◌, List, ℕ, get_or, sym, ap, ◌∙◌, arith}
 use Rattle.std.specs.Prelude.{slice_get, slice_index, Some}
 use Rattle.css_domain.specs.Entries.{Entry}
-use Rattle.css_prune.proofs.Steps.{some_at}
 use Rattle.css_prune.proofs.FirstFaults.{matched_by, from_matched}
 use Rattle.css_prune.proofs.faults.is_matched.Goals as goal
+use Rattle.lists.proofs.Places.{some_at}
 
 pub returns : goal.returns
 returns g c =

@@ -1,10 +1,10 @@
-use Rattle.std.proofs.Common.{◌≡◌, List, ℕ, get_or, refl, sym, ap, subst, ◌∙◌, arith}
+use Rattle.std.proofs.Common.{◌≡◌, List, ℕ, get_or, refl, sym, ap, ◌∙◌, arith}
 use Rattle.std.specs.Prelude.{slice_get, slice_index, Some, IsTrue}
 use Rattle.std.proofs.lemmas.Option.{slice_get_within}
 use Rattle.css_domain.specs.Entries.{Entry, can_keep_length}
-use Rattle.css_prune.proofs.Steps.{some_at}
 use Rattle.css_prune.proofs.FirstFaults.{not_both, same_some, less_true, true_less}
 use Rattle.css_prune.proofs.faults.is_rank_right.Goals as goal
+use Rattle.lists.proofs.Places.{some_at}
 
 pub returns-then-not-can_keep_length : goal.returns-then-not-can_keep_length
 returns-then-not-can_keep_length g c =

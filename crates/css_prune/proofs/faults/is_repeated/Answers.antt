@@ -1,8 +1,8 @@
 use Rattle.std.proofs.Common.{◌≡◌, refl, sym, ap, ◌∙◌, arith}
 use Rattle.css_domain.specs.Entries.{Entry}
-use Rattle.css_prune.proofs.Steps.{some_at}
 use Rattle.css_prune.proofs.FirstFaults.{before_more, never, not_both}
 use Rattle.css_prune.proofs.faults.is_repeated.Goals as goal
+use Rattle.lists.proofs.Places.{some_at}
 
 pub returns-then-is_same : goal.returns-then-is_same
 returns-then-is_same g c = (

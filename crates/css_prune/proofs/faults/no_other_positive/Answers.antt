@@ -1,8 +1,9 @@
-use Rattle.std.proofs.Common.{◌≡◌, ◌<◌, false, get_or, length, sym, ap, ◌∙◌, arith}
+use Rattle.std.proofs.Common.{◌≡◌, false, get_or, length, sym, arith}
 use Rattle.std.specs.Prelude.{map, ◌≢◌}
 use Rattle.std.proofs.lemmas.List.{length-map}
-use Rattle.css_prune.proofs.FirstFaults.{slot_more, one_but_slot, none_but_slot}
+use Rattle.css_prune.proofs.FirstFaults.{one_but_slot, none_but_slot}
 use Rattle.css_prune.proofs.faults.no_other_positive.Goals as goal
+use Rattle.lists.proofs.Numbers.{up_to_next}
 
 pub returns-then-is_other_positive : goal.returns-then-is_other_positive
 returns-then-is_other_positive g c =
@@ -13,7 +14,7 @@ returns-then-is_other_positive g c =
 
 pub loop-other-preserved : goal.loop-other-preserved
 loop-other-preserved g c =
-    slot_more (λ s. s ≢ c.args.slot → get_or (map g.D.Domain.meaning.positive (g.D.Domain.meaning.children c.args.rule.now)) s false ≡ false) c.loop-other.other c.loop-other.invariant (c.is_other_positive.ensures.no c.if-is_other_positive.false)
+    up_to_next (λ s. s ≢ c.args.slot → get_or (map g.D.Domain.meaning.positive (g.D.Domain.meaning.children c.args.rule.now)) s false ≡ false) c.loop-other.other c.loop-other.invariant (c.is_other_positive.ensures.no c.if-is_other_positive.false)
 
 pub returns : goal.returns
 returns g c =

@@ -1,8 +1,8 @@
 use Rattle.std.proofs.Common.{◌≡◌, take, length, nat_eq}
 use Rattle.std.specs.Prelude.{map}
-use Rattle.css_domain.specs.Added.{with_all_new}
 use Rattle.css_prune.specs.Places.{ArePlaces}
 use Rattle.css_prune.proofs.order.add_children.Given as goal
+use Rattle.lists.specs.Added.{with_all_new}
 
 abbrev pub invariant-loop-child : goal.invariant-loop-child
 invariant-loop-child l =

@@ -1,16 +1,15 @@
 -- Place by place.
-use Rattle.std.proofs.Common.{◌≡◌, ◌<◌, ◌≤◌, ℕ, Bool, length, sym, ap, subst, ◌∙◌, arith}
+use Rattle.std.proofs.Common.{◌<◌, ℕ, Bool, length, sym, ap, subst, ◌∙◌, arith}
 use Rattle.std.specs.Prelude.{map, slice_index, nat_eq}
 use Rattle.std.proofs.Common.{List}
 use Rattle.std.proofs.lemmas.List.{length-map}
-use Rattle.css_domain.specs.Added.{with_all_new}
-use Rattle.css_domain.specs.Records.{numbers}
 use Rattle.css_prune.specs.Pruning.{kept}
-use Rattle.css_prune.proofs.Steps.{written_back}
-use Rattle.css_prune.specs.Places.{ArePlaces, calls}
-use Rattle.css_prune.proofs.Placed.{order_stops, some_at}
+use Rattle.css_prune.specs.Places.{calls}
+use Rattle.css_prune.proofs.Placed.{order_stops}
 use Rattle.css_prune.proofs.Guided.{no_places, small_at, pick_small, child_small, next_order}
 use Rattle.css_prune.proofs.order.order_of.Goals as goal
+use Rattle.lists.specs.Added.{with_all_new}
+use Rattle.lists.proofs.Places.{written_back, some_at}
 
 pub add_child-requires-clause-places : goal.add_child-requires-clause-places
 add_child-requires-clause-places c = no_places c.new-order.result.items c.deref_mut.result.now (length c.args.keep.now) c.new-order.ensures.items (c.deref_mut.ensures.value ∙ c.in_ok-places.ensures.items_if_clones_equal (λ y e. e))

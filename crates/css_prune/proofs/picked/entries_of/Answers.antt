@@ -2,14 +2,14 @@
 use Rattle.std.proofs.Common.{◌≡◌, ◌+◌, ◌++◌, ◌∷◌, [], ℕ, List, suc, take, get_or, sym, ap, subst, ◌∙◌, arith}
 use Rattle.std.specs.Prelude.{slice_get, Some}
 use Rattle.std.specs.List.{AllZip}
-use Rattle.patterns.specs.Parts.{IsIn}
 use Rattle.css_domain.specs.Entries.{Entry, IsPickOf}
-use Rattle.css_domain.proofs.Finding.{take_next}
 use Rattle.css_prune.specs.Pruning.{kept}
 use Rattle.css_prune.proofs.Supports.{in_at_slot}
 use Rattle.css_prune.proofs.FirstFaults.{number_at}
 use Rattle.css_prune.proofs.Extracting.{zip_push}
 use Rattle.css_prune.proofs.picked.entries_of.Goals as goal
+use Rattle.lists.proofs.Places.{take_next}
+use Rattle.lists.specs.Members.{IsIn}
 
 pub entry_of-requires-clause-ready : goal.entry_of-requires-clause-ready
 entry_of-requires-clause-ready g c =

@@ -1,13 +1,13 @@
 -- The class's pick, part by part.
 use Rattle.std.proofs.Common.{◌≡◌, ◌<◌, ◌-◌, ℕ, Bool, List, length, get_or, sym, ap, subst, ◌∙◌, arith}
 use Rattle.std.specs.Prelude.{map, slice_get, slice_index, Some}
-use Rattle.patterns.specs.Parts.{IsIn}
 use Rattle.css_domain.specs.declared.record.Record.{Record}
 use Rattle.css_domain.specs.Ledgers.{records}
 use Rattle.css_prune.specs.Pruning.{kept}
-use Rattle.css_prune.proofs.Steps.{some_at}
 use Rattle.css_prune.proofs.Extracting.{numbers_within, numbers_placed, pick_of_entry}
 use Rattle.css_prune.proofs.picked.entry_of.Goals as goal
+use Rattle.lists.proofs.Places.{some_at}
+use Rattle.lists.specs.Members.{IsIn}
 
 pub places_of-requires-clause-within : goal.places_of-requires-clause-within
 places_of-requires-clause-within g c =

@@ -3,9 +3,9 @@ use Rattle.std.proofs.Common.{arith, subst, length, ap, ◌∙◌, List, Bool, t
 use Rattle.std.proofs.lemmas.List.{get_or-replicate}
 use Rattle.css_prune.specs.Pruning.{kept}
 use Rattle.css_prune.specs.Marks.{AreDropped, AreRanks}
-use Rattle.css_prune.proofs.Steps.{written_back}
 use Rattle.css_prune.proofs.Drops.{stands_below, still_all, answered, none_elsewhere}
 use Rattle.css_prune.proofs.pruned.prune.Goals as goal
+use Rattle.lists.proofs.Places.{written_back}
 
 pub loop-keep-init : goal.loop-keep-init
 loop-keep-init c =

@@ -2,8 +2,9 @@
 use Rattle.std.proofs.Common.{◌≡◌, arith, subst, length, ap, ◌∙◌}
 use Rattle.css_prune.specs.Pruning.{kept}
 use Rattle.css_prune.specs.Marks.{AreAfter}
-use Rattle.css_prune.proofs.Steps.{early_end, whole_end, written_back}
+use Rattle.css_prune.proofs.Steps.{early_end, whole_end}
 use Rattle.css_prune.proofs.round.marks_of.Goals as goal
+use Rattle.lists.proofs.Places.{written_back}
 
 pub returns-then-not-run_round-clause-are : goal.returns-then-not-run_round-clause-are
 returns-then-not-run_round-clause-are c =

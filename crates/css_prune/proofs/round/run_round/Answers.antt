@@ -1,11 +1,11 @@
 -- Record by record.
 use Rattle.std.proofs.Common.{◌≡◌, ◌<◌, length, suc, ◌+◌, refl, sym, ◌∙◌, subst, arith}
-use Rattle.css_domain.proofs.Determined.{IsIn-slice_get}
 use Rattle.css_prune.specs.Pruning.{kept}
 use Rattle.css_prune.specs.Marks.{IsGiven, IsSkipped}
-use Rattle.css_prune.proofs.Steps.{start, given, skipped, some_at}
+use Rattle.css_prune.proofs.Steps.{start, given, skipped}
 use Rattle.css_prune.proofs.round.run_round.Goals as goal
 use Rattle.css_prune.proofs.round.run_round.Goals.{then-give, else-give}
+use Rattle.lists.proofs.Places.{IsIn-slice_get, some_at}
 
 pub loop-place-init : goal.loop-place-init
 loop-place-init c =

@@ -5,7 +5,7 @@ use Rattle.std.proofs.lemmas.List.{length-map, map-set, get_or-map}
 use Rattle.std.proofs.lemmas.Option.{slice_get_within}
 use Rattle.css_terms.specs.Series.{items_of, lists_of}
 use Rattle.css_terms.specs.Rows.{AreTailsOf}
-use Rattle.css_terms.proofs.RankOrder.{some_at}
+use Rattle.lists.proofs.Places.{some_at}
 use Rattle.css_terms.proofs.Evaluation.{tails_grow, tails_set, length-slice_set}
 use Rattle.css_terms.proofs.evaluate.add_tails.Goals as goal
 

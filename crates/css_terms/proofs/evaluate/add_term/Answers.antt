@@ -5,9 +5,9 @@ use Rattle.std.proofs.lemmas.List.{length-map, map-set, get_or-map}
 use Rattle.css_terms.specs.Series.{items_of, lists_of, places, Knows, ShowsTails}
 use Rattle.css_terms.specs.declared.term.Term.{Term}
 use Rattle.css_terms.specs.Rows.{IsExtended}
-use Rattle.css_terms.proofs.RankOrder.{some_at}
 use Rattle.css_terms.proofs.Evaluation.{extended}
 use Rattle.css_terms.proofs.evaluate.add_term.Goals as goal
+use Rattle.lists.proofs.Places.{some_at}
 
 -- the kept tails are those of the row
 kept_items : (tails : List (Vec (Vec Term Global) Global)) (place : ℕ) (v : Vec (Vec Term Global) Global) (kept : List (Vec Term Global)) → place < length tails → v ≡ get_or tails place v → kept ≡ v.items → get_or (lists_of tails) place [] ≡ items_of kept

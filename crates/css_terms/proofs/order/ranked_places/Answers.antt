@@ -1,8 +1,9 @@
 -- The next row is placed.
 use Rattle.std.proofs.Common.{◌≡◌, ◌+◌, ◌∷◌, [], ◌++◌, take, sym, ap, ◌∙◌, arith}
-use Rattle.css_terms.proofs.RankOrder.{ranked_more, some_at}
+use Rattle.css_terms.proofs.RankOrder.{ranked_more}
 use Rattle.css_terms.specs.Rows.{ranked_from}
 use Rattle.css_terms.proofs.order.ranked_places.Goals as goal
+use Rattle.lists.proofs.Places.{some_at}
 
 pub loop-place-preserved : goal.loop-place-preserved
 loop-place-preserved c =

@@ -3,8 +3,9 @@ use Rattle.std.proofs.Common.{◌*◌, ◌-◌, ℕ, length, ap, sym, ◌∙◌,
 use Rattle.std.specs.Prelude.{sum_by}
 use Rattle.std.specs.List.{range_with_len}
 use Rattle.css_terms.specs.Terms.{capped}
-use Rattle.css_terms.proofs.Sums.{sum_next, as_far}
+use Rattle.css_terms.proofs.Sums.{as_far}
 use Rattle.css_terms.proofs.series.convolution_at.Goals as goal
+use Rattle.lists.proofs.Counts.{sum_next}
 
 pub loop-k-preserved : goal.loop-k-preserved
 loop-k-preserved c = λ f g h s e.

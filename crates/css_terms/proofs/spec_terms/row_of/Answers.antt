@@ -2,10 +2,10 @@
 use Rattle.std.proofs.Common.{◌≡◌, ◌+◌, ◌++◌, ◌∷◌, [], ℕ, Bool, List, suc, length, take, get_or, sym, ap, ◌∙◌, arith}
 use Rattle.std.specs.Prelude.{map, zip, slice_get, Some}
 use Rattle.css_domain.specs.Entries.{Entry}
-use Rattle.css_domain.proofs.Finding.{get-map, take_next}
 use Rattle.css_prune.proofs.FirstFaults.{number_at}
 use Rattle.css_terms.proofs.Zipped.{zip_place, zip_taken}
 use Rattle.css_terms.proofs.spec_terms.row_of.Goals as goal
+use Rattle.lists.proofs.Places.{get-map, take_next}
 
 pub loop-slot-preserved : goal.loop-slot-preserved
 loop-slot-preserved g c =

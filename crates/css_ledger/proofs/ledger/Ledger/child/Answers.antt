@@ -2,9 +2,9 @@
 use Rattle.std.proofs.Common.{◌≡◌, ℕ, Bool, false, length, get_or, Some, ◌∙◌, refl, ap, subst, arith}
 use Rattle.std.specs.Prelude.{slice_get}
 use Rattle.css_domain.specs.Ledgers.{Books, classes}
-use Rattle.css_domain.proofs.Determined.{at_place}
 use Rattle.css_ledger.proofs.Places.{child_at, as_many_children}
 use Rattle.css_ledger.proofs.ledger.Ledger.child.Goals as goal
+use Rattle.lists.proofs.Places.{at_place}
 
 pub bounds-as_slice-slot : goal.bounds-as_slice-slot
 bounds-as_slice-slot g c =

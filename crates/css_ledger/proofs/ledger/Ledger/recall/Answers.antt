@@ -2,8 +2,8 @@
 use Rattle.std.proofs.Common.{length, ◌∙◌, refl, ap, arith}
 use Rattle.css_ledger.specs.Stages.{is_done, stage_at}
 use Rattle.css_ledger.proofs.Claims.{kept_recalled}
-use Rattle.css_ledger.proofs.Back.{written_back}
 use Rattle.css_ledger.proofs.ledger.Ledger.recall.Goals as goal
+use Rattle.lists.proofs.Places.{written_back}
 
 pub invariant_of-self : goal.invariant_of-self
 invariant_of-self g c =
