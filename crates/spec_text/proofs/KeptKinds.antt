@@ -30,7 +30,7 @@ use Rattle.sequences.proofs.InOrder.{in_order_ascends}
 use Rattle.tiling_core.specs.Tiles.{Tiles, IsTiling, AreGridded}
 use Rattle.tiling_core.specs.Patterns.{active_cells, forbids, also}
 use Rattle.tiling_core.specs.Measures.{weight}
-use Rattle.steps.specs.Steps.{is_nil}
+use Rattle.lists.specs.Members.{is_nil}
 use Rattle.emptiness.specs.Inferable.{is_inferable, could_be_inferred, has_no_member}
 use Rattle.rule_kinds.specs.declared.kind.Kind.{Kind}
 use Rattle.rule_kinds.specs.declared.kind.Kind.TheVariants as kind
