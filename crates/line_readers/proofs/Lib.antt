@@ -1,0 +1,13 @@
+pub mod Cutting
+pub mod Values
+pub mod Ascents
+pub mod Letters
+pub mod Wide
+pub mod SmallSets
+pub mod Conditions
+pub mod LineForms
+pub mod ListForms
+pub mod TermForms
+pub mod KindForms
+pub mod OutOfRange
+pub mod KindAnswers

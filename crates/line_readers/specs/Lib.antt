@@ -1,0 +1,9 @@
+pub mod Cuts
+pub mod Few
+pub mod Wide
+pub mod Kept
+pub mod Narrow
+pub mod LineItems
+pub mod KindItems
+pub mod Terms
+pub mod Answers
