@@ -3,7 +3,8 @@ use Rattle.std.specs.Prelude.{◌≡◌, ◌<◌, ℕ, true, List, [], length, s
 use Rattle.std.specs.List.{range_with_len}
 use Rattle.css_domain.specs.Meanings.{Meaning}
 use Rattle.css_domain.specs.Ledgers.{Books, classes, done, is_all_done, after_filings, with_filing}
-use Rattle.css_domain.specs.LedgerFacts.{IsFilingOf}
+use Rattle.css_domain.specs.FiledSpecs.{IsFiledSpec}
+use Rattle.css_domain.specs.LedgerFacts.{IsLedger, IsFilingOf}
 use Rattle.css_domain.specs.Entries.{Entry, Picked}
 use Rattle.css_domain.specs.Reasons.{Reason, AreFilingsComplete, RootStands, Stops}
 use Rattle.css_domain.specs.Reasons.Reason.{Found, Exhausted, Budget}
@@ -52,6 +53,10 @@ module _ {C R : Type 0} (D : Meaning C R) where
   abbrev pub Goes : Books C R → Books C R → Option Answer → Type 0
   Goes l new None = IsNext l new
   Goes l new (Some answer) = (new ≡ l) × FilesNone l answer
+
+  -- the picks of a ledger whose first class is its root are a specification of the root by rules that are filed
+  abbrev pub PicksAreFiled : Type 0
+  PicksAreFiled = (l : Books C R) (entries : List (Entry C R)) → IsLedger D l → slice_get (classes D l) 0 ≡ Some l.root → Picked D l 0 entries → IsFiledSpec D l entries
 
   -- the specification that goes with a ledger: that of its picks, where its root stands
   abbrev pub GoesWith : Books C R → Option (List (Entry C R)) → Type 0

@@ -3,10 +3,12 @@
 
 mod alone;
 mod expander;
+mod laws;
 mod reason;
 #[cfg(test)]
 mod tests;
 
 pub use alone::{Solved, solve_alone};
 pub use expander::Expander;
+pub use laws::picks_are_filed;
 pub use reason::Reason;

@@ -3,6 +3,7 @@ ghost use Rattle.css_crew.specs.Ways.{IsExpansion};
 
 use crate::alone::{Solved, solve_alone};
 use crate::expander::Expander;
+use crate::laws::picks_are_filed;
 use crate::reason::Reason;
 use css_domain::{Domain, Filing, Shape};
 use css_ledger::{Counts, Ledger};
@@ -213,4 +214,9 @@ fn each_reason_comes_in_its_order(rt: HostRuntime) -> Result<(), Fail> {
     // 7 and 10 are filed; 20 and 30 are not.
     assert!(rt; ends(alloc, 7, 2, Reason::Budget, counts(2, 4, 3))?);
     Ok(())
+}
+
+#[test]
+fn a_law_computes_nothing() {
+    picks_are_filed::<Numbers>();
 }

@@ -107,3 +107,16 @@ fn terms_of_a_product(rt: HostRuntime) -> Result<(), Fail> {
     assert_eq!(rt; terms.as_slice(), expected.as_slice());
     Ok(())
 }
+
+/// The 69th Catalan number is below 2^128, the next is not.
+#[test]
+fn terms_end_with_the_first_big_one(rt: HostRuntime) -> Result<(), Fail> {
+    let alloc = rt.alloc();
+    let rows = split_rows(alloc)?;
+    let terms = terms_of_rows(alloc, rows.as_slice(), 200)?;
+    let last = Term::Exact(337485502510215975556783793455058624700);
+    assert_eq!(rt; terms.len(), 71);
+    assert_eq!(rt; terms.get(69), Some(&last));
+    assert_eq!(rt; terms.get(70), Some(&Term::Big));
+    Ok(())
+}

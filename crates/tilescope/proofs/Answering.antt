@@ -13,7 +13,7 @@ use Rattle.tilescope.proofs.Forms.{terms_of_form}
 use Rattle.tilescope.specs.declared.words.Request.{Request}
 use Rattle.tilescope.specs.declared.words.WordFault.{WordFault}
 use Rattle.tilescope.specs.Words.{Text, Reads, IsRefused}
-use Rattle.tilescope.specs.Answers.{IsAnswer, IsSearchAnswer, IsUsageAnswer, IsUsagePrefix, AreRefused, AreAccepted, IsOneOf, IsStatus, IsUsage, IsFoundWritten, IsNoneWritten, IsSearchPrefix, IsSolved, HasSpecification, HasSpecificationByPack, HasNoSpecification, HasEnded, IsBeyondPack}
+use Rattle.tilescope.specs.Answers.{IsAnswer, IsSearchAnswer, IsUsageAnswer, IsUsagePrefix, AreRefused, AreAccepted, IsOneOf, IsStatus, IsUsage, IsFoundWritten, IsNoneWritten, IsSearchPrefix, IsSolved, IsSearched, IsLedgerOf, HasSpecification, IsByPack, HasNoSpecification, HasEnded, IsBeyondPack}
 use Rattle.tilescope.specs.Searches.{TileBooks}
 use Rattle.tilescope.specs.Answers.IsAnswer.{usage, search}
 use Rattle.tilescope.specs.Answers.IsSearchAnswer.{found, none}
@@ -54,8 +54,8 @@ ended_by l Budget ne e = inr (e.1, e.2)
 module _ (words : List Text) where
   pub answer_status : (status : ℕ) (text : Text) (ledger : Option TileBooks) → IsAnswer words status text ledger → IsStatus status
   answer_status _ _ _ (usage r) = later 0 (later 1 here)
-  answer_status _ _ _ (search a _ _ _ (found l text p s)) = here
-  answer_status _ _ _ (search a _ _ _ (none l why text ne w s)) = later 0 here
+  answer_status _ _ _ (search a _ _ _ (found l text s)) = here
+  answer_status _ _ _ (search a _ _ _ (none l why text ne s)) = later 0 here
 
   pub answer_refused : (status : ℕ) (text : Text) (ledger : Option TileBooks) → IsAnswer words status text ledger → AreRefused words → IsOneOf status (2 ∷ 5 ∷ 6 ∷ [])
   answer_refused _ _ _ (usage r) h = here
@@ -63,8 +63,8 @@ module _ (words : List Text) where
 
   pub answer_accepted : (status : ℕ) (text : Text) (ledger : Option TileBooks) → IsAnswer words status text ledger → AreAccepted words → IsOneOf status (0 ∷ 1 ∷ 5 ∷ 6 ∷ [])
   answer_accepted _ _ _ (usage r) h = absurd (exclude words h r)
-  answer_accepted _ _ _ (search a _ _ _ (found l text p s)) h = here
-  answer_accepted _ _ _ (search a _ _ _ (none l why text ne w s)) h = later 0 here
+  answer_accepted _ _ _ (search a _ _ _ (found l text s)) h = here
+  answer_accepted _ _ _ (search a _ _ _ (none l why text ne s)) h = later 0 here
 
   pub answer_unsolved : (status : ℕ) (text : Text) (ledger : Option TileBooks) → IsAnswer words status text ledger → AreRefused words → IsNone ledger
   answer_unsolved _ _ _ (usage r) h = refl
@@ -72,55 +72,59 @@ module _ (words : List Text) where
 
   pub answer_solved : (status : ℕ) (text : Text) (ledger : Option TileBooks) → IsAnswer words status text ledger → AreAccepted words → IsSolved words ledger
   answer_solved _ _ _ (usage r) h = absurd (exclude words h r)
-  answer_solved _ _ _ (search a _ _ _ (found l text p s)) h = record { why = Found; text = text; search = record { accepted = a; books = l; kept = refl; searched = s } }
-  answer_solved _ _ _ (search a _ _ _ (none l why text ne w s)) h = record { why = why; text = text; search = record { accepted = a; books = l; kept = refl; searched = s } }
+  answer_solved _ _ _ (search a _ _ _ (found l text s)) h = record { why = Found; text = text; search = record { accepted = a; books = l; kept = refl; searched = s } }
+  answer_solved _ _ _ (search a _ _ _ (none l why text ne s)) h = record { why = why; text = text; search = record { accepted = a; books = l; kept = refl; searched = s } }
 
-  pub answer_valid : (status : ℕ) (text : Text) (ledger : Option TileBooks) → IsAnswer words status text ledger → status ≡ 0 → HasSpecification ledger
+  -- the ledger of a search that the words ask for
+  own : (a : AreAccepted words) (l : TileBooks) (why : Reason) (text : Text) → IsSearched a.request l why text → IsLedgerOf words (Some l)
+  own a l why text s = record { accepted = a; books = l; kept = refl; root = s.explored.root; of_pack = s.explored.alone.of_rulebook }
+
+  pub answer_valid : (status : ℕ) (text : Text) (ledger : Option TileBooks) → IsAnswer words status text ledger → status ≡ 0 → HasSpecification words ledger
   answer_valid _ _ _ (usage r) e = absurd (omega (arith, e))
-  answer_valid _ _ _ (search a _ _ _ (found l text p s)) e = record { books = l; kept = refl; entries = s.says.entries; spec = s.says.spec }
-  answer_valid _ _ _ (search a _ _ _ (none l why text ne w s)) e = absurd (omega (arith, e))
+  answer_valid _ _ _ (search a _ _ _ (found l text s)) e = record { own = own a l Found text s; entries = s.says.entries; spec = s.says.spec }
+  answer_valid _ _ _ (search a _ _ _ (none l why text ne s)) e = absurd (omega (arith, e))
 
-  pub answer_by_pack : (status : ℕ) (text : Text) (ledger : Option TileBooks) → IsAnswer words status text ledger → status ≡ 0 → HasSpecificationByPack words ledger
+  pub answer_by_pack : (status : ℕ) (text : Text) (ledger : Option TileBooks) → IsAnswer words status text ledger → status ≡ 0 → IsByPack words ledger
   answer_by_pack _ _ _ (usage r) e = absurd (omega (arith, e))
-  answer_by_pack _ _ _ (search a _ _ _ (found l text p s)) e = record { accepted = a; books = l; kept = refl; entries = s.says.entries; spec = s.says.spec; tried = p s.says.entries (record { valid = s.says.spec.valid; filed = s.says.spec.filed }) }
-  answer_by_pack _ _ _ (search a _ _ _ (none l why text ne w s)) e = absurd (omega (arith, e))
+  answer_by_pack _ _ _ (search a _ _ _ (found l text s)) e = record { own = own a l Found text s; tried = s.by_pack }
+  answer_by_pack _ _ _ (search a _ _ _ (none l why text ne s)) e = absurd (omega (arith, e))
 
   -- an answer itself doesn't end for want of memory
   pub answer_has_memory : (status : ℕ) (text : Text) (ledger : Option TileBooks) → IsAnswer words status text ledger → status ≡ 6 → ⊥
   answer_has_memory _ _ _ (usage r) e = omega (arith, e)
-  answer_has_memory _ _ _ (search a _ _ _ (found l text p s)) e = omega (arith, e)
-  answer_has_memory _ _ _ (search a _ _ _ (none l why text ne w s)) e = omega (arith, e)
+  answer_has_memory _ _ _ (search a _ _ _ (found l text s)) e = omega (arith, e)
+  answer_has_memory _ _ _ (search a _ _ _ (none l why text ne s)) e = omega (arith, e)
 
-  pub answer_none : (status : ℕ) (text : Text) (ledger : Option TileBooks) → IsAnswer words status text ledger → status ≡ 1 → HasNoSpecification ledger
+  pub answer_none : (status : ℕ) (text : Text) (ledger : Option TileBooks) → IsAnswer words status text ledger → status ≡ 1 → HasNoSpecification words ledger
   answer_none _ _ _ (usage r) e = absurd (omega (arith, e))
-  answer_none _ _ _ (search a _ _ _ (found l text p s)) e = absurd (omega (arith, e))
-  answer_none _ _ _ (search a _ _ _ (none l why text ne w s)) e = record { books = l; kept = refl; none = w.none; none_filed = w.none_filed }
+  answer_none _ _ _ (search a _ _ _ (found l text s)) e = absurd (omega (arith, e))
+  answer_none _ _ _ (search a _ _ _ (none l why text ne s)) e = record { own = own a l why text s; none = (s.without ne).none; none_filed = (s.without ne).none_filed }
 
   pub answer_beyond : (status : ℕ) (text : Text) (ledger : Option TileBooks) → IsAnswer words status text ledger → status ≡ 1 → IsBeyondPack words ledger
   answer_beyond _ _ _ (usage r) e = absurd (omega (arith, e))
-  answer_beyond _ _ _ (search a _ _ _ (found l text p s)) e = absurd (omega (arith, e))
-  answer_beyond _ _ _ (search a _ _ _ (none l why text ne w s)) e = record { accepted = a; books = l; kept = refl; beyond = w.beyond }
+  answer_beyond _ _ _ (search a _ _ _ (found l text s)) e = absurd (omega (arith, e))
+  answer_beyond _ _ _ (search a _ _ _ (none l why text ne s)) e = record { own = own a l why text s; beyond = (s.without ne).beyond }
 
-  pub answer_ended : (status : ℕ) (text : Text) (ledger : Option TileBooks) → IsAnswer words status text ledger → status ≡ 1 → HasEnded ledger
+  pub answer_ended : (status : ℕ) (text : Text) (ledger : Option TileBooks) → IsAnswer words status text ledger → status ≡ 1 → HasEnded words ledger
   answer_ended _ _ _ (usage r) e = absurd (omega (arith, e))
-  answer_ended _ _ _ (search a _ _ _ (found l text p s)) e = absurd (omega (arith, e))
-  answer_ended _ _ _ (search a _ _ _ (none l why text ne w s)) e = record { books = l; kept = refl; why = ended_by l why ne s.explored.ends; normal = s.explored.normal; complete = s.explored.alone.complete }
+  answer_ended _ _ _ (search a _ _ _ (found l text s)) e = absurd (omega (arith, e))
+  answer_ended _ _ _ (search a _ _ _ (none l why text ne s)) e = record { own = own a l why text s; why = ended_by l why ne s.explored.ends; normal = s.explored.normal; complete = s.explored.alone.complete }
 
   module _ (before now : Option (List ℕ)) where
     pub answer_usage : (status : ℕ) (text : Text) (ledger : Option TileBooks) → IsAnswer words status text ledger → status ≡ 2 → GrewBy before now text → IsUsage words before now
     answer_usage _ _ _ (usage r) e g = record { refused = r; written = g }
-    answer_usage _ _ _ (search a _ _ _ (found l text p s)) e g = absurd (omega (arith, e))
-    answer_usage _ _ _ (search a _ _ _ (none l why text ne w s)) e g = absurd (omega (arith, e))
+    answer_usage _ _ _ (search a _ _ _ (found l text s)) e g = absurd (omega (arith, e))
+    answer_usage _ _ _ (search a _ _ _ (none l why text ne s)) e g = absurd (omega (arith, e))
 
     pub answer_found : (status : ℕ) (text : Text) (ledger : Option TileBooks) → IsAnswer words status text ledger → status ≡ 0 → GrewBy before now text → IsFoundWritten words ledger before now
     answer_found _ _ _ (usage r) e g = absurd (omega (arith, e))
-    answer_found _ _ _ (search a _ _ _ (found l text p s)) e g = record { text = text; search = record { accepted = a; books = l; kept = refl; searched = s }; written = g }
-    answer_found _ _ _ (search a _ _ _ (none l why text ne w s)) e g = absurd (omega (arith, e))
+    answer_found _ _ _ (search a _ _ _ (found l text s)) e g = record { text = text; search = record { accepted = a; books = l; kept = refl; searched = s }; written = g }
+    answer_found _ _ _ (search a _ _ _ (none l why text ne s)) e g = absurd (omega (arith, e))
 
     pub answer_none_written : (status : ℕ) (text : Text) (ledger : Option TileBooks) → IsAnswer words status text ledger → status ≡ 1 → GrewBy before now text → IsNoneWritten words ledger before now
     answer_none_written _ _ _ (usage r) e g = absurd (omega (arith, e))
-    answer_none_written _ _ _ (search a _ _ _ (found l text p s)) e g = absurd (omega (arith, e))
-    answer_none_written _ _ _ (search a _ _ _ (none l why text ne w s)) e g = record { text = text; why = why; not_found = ne; search = record { accepted = a; books = l; kept = refl; searched = s }; written = g }
+    answer_none_written _ _ _ (search a _ _ _ (found l text s)) e g = absurd (omega (arith, e))
+    answer_none_written _ _ _ (search a _ _ _ (none l why text ne s)) e g = record { text = text; why = why; not_found = ne; search = record { accepted = a; books = l; kept = refl; searched = s }; written = g }
 
     pub answer_prefix : (status : ℕ) (text : Text) (ledger : Option TileBooks) → IsAnswer words status text ledger → AreRefused words → GrewByPrefix before now text → IsUsagePrefix words before now
     answer_prefix _ _ _ (usage r) h g = record { refused = r; written = g }
@@ -128,14 +132,14 @@ module _ (words : List Text) where
 
     pub search_prefix : (status : ℕ) (text : Text) (ledger : Option TileBooks) → IsAnswer words status text ledger → AreAccepted words → GrewByPrefix before now text → IsSearchPrefix words ledger before now
     search_prefix _ _ _ (usage r) h g = absurd (exclude words h r)
-    search_prefix _ _ _ (search a _ _ _ (found l text p s)) h g = record { why = Found; text = text; search = record { accepted = a; books = l; kept = refl; searched = s }; written = g }
-    search_prefix _ _ _ (search a _ _ _ (none l why text ne w s)) h g = record { why = why; text = text; search = record { accepted = a; books = l; kept = refl; searched = s }; written = g }
+    search_prefix _ _ _ (search a _ _ _ (found l text s)) h g = record { why = Found; text = text; search = record { accepted = a; books = l; kept = refl; searched = s }; written = g }
+    search_prefix _ _ _ (search a _ _ _ (none l why text ne s)) h g = record { why = why; text = text; search = record { accepted = a; books = l; kept = refl; searched = s }; written = g }
 
     -- an answer itself doesn't end as a fault
     pub no_fault : (status : ℕ) (text : Text) (ledger : Option TileBooks) → IsAnswer words status text ledger → AreAccepted words → status ≡ 5 → IsSearchPrefix words ledger before now
     no_fault _ _ _ (usage r) h e = absurd (exclude words h r)
-    no_fault _ _ _ (search a _ _ _ (found l text p s)) h e = absurd (omega (arith, e))
-    no_fault _ _ _ (search a _ _ _ (none l why text ne w s)) h e = absurd (omega (arith, e))
+    no_fault _ _ _ (search a _ _ _ (found l text s)) h e = absurd (omega (arith, e))
+    no_fault _ _ _ (search a _ _ _ (none l why text ne s)) h e = absurd (omega (arith, e))
 
 pub memory_status : IsStatus 6
 memory_status = later 0 (later 1 (later 2 (later 5 here)))

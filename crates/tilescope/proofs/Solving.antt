@@ -23,7 +23,7 @@ use Rattle.pack_law.specs.Tried.{AreTried, IsFiledFor, AloneIsFiled, ClassesAreN
 use Rattle.spec_lines.specs.Lines.{Text}
 use Rattle.spec_text.specs.Texts.{spec_text}
 use Rattle.tilescope.specs.declared.words.Request.{Request}
-use Rattle.tilescope.specs.Searches.{TileBooks, TileEntries, IsReducedRoot, IsExplored, IsSpecOf, IsWithout, IsAnswerText, none_line}
+use Rattle.tilescope.specs.Searches.{TileBooks, TileEntries, IsReducedRoot, IsExplored, IsSpecOf, IsWithout, AreRulesOfPack, IsAnswerText, none_line}
 use Rattle.tilescope.specs.Answers.{IsSearchAnswer, IsSearched}
 use Rattle.tilescope.specs.Answers.IsSearchAnswer.{found, none}
 
@@ -67,6 +67,9 @@ module _ (stand : FiledSpecsStand tile_meaning) (alone_is_filed : AloneIsFiled) 
         ends = ends;
       }
 
+  by_pack : AreRulesOfPack request.packs l
+  by_pack entries spec = are_tried request.packs l entries filed_for spec
+
   without : (RootStands tile_meaning l → ⊥) → IsWithout request.packs l
   without unsettled =
       record {
@@ -78,14 +81,16 @@ module _ (stand : FiledSpecsStand tile_meaning) (alone_is_filed : AloneIsFiled) 
   pub none_answer : (why : Reason) (text : Text) → EndsFor tile_meaning l why → (RootStands tile_meaning l → ⊥) → text ≡ none_line why (counts tile_meaning l) → IsSearchAnswer request 1 text (Some l)
   none_answer why text ends unsettled line =
       let ne = not_found l why ends unsettled in
-      none l why text ne (without unsettled) (record { explored = explored why ends; says = none_text request.basis request.terms l why text ne line })
+      none l why text ne (record { explored = explored why ends; says = none_text request.basis request.terms l why text ne line; by_pack = by_pack; without = λ _. without unsettled })
 
   pub found_answer : (entries : TileEntries) (steps : List Step) (text : Text) → Picked tile_meaning l 0 entries → IsFiledSpec tile_meaning l entries → steps ≡ trace (root_of request.basis)
       → text ≡ spec_text request.basis steps entries (terms_to request.terms (class_counts tile_meaning entries 0)) → IsSearchAnswer request 0 text (Some l)
   found_answer entries steps text picked spec traced written =
       let terms : terms_to request.terms (class_counts tile_meaning entries 0) ≡ terms_of request.basis request.terms = same_terms request.terms (class_counts tile_meaning entries 0) (avoiders request.basis) (root_counts request.basis l entries own_root spec.valid) in
-      found l text (λ entries own. are_tried request.packs l entries filed_for own)
+      found l text
       (record {
         explored = explored Found (stands l entries picked);
         says = record { entries = entries; spec = record { picked = picked; valid = spec.valid; filed = spec.filed }; written = written ∙ (λ i. spec_text request.basis (traced i) entries (terms i)) };
+        by_pack = by_pack;
+        without = λ ne. absurd (ne refl);
       })

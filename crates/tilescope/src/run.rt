@@ -1,7 +1,7 @@
 ghost use Rattle.std.specs.Prelude.{◌≡◌, ◌≢◌, [], ◌∷◌, IsNone, map, string_bytes};
 ghost use Rattle.outside.specs.Bytes.{GrewBy};
 ghost use Rattle.outside.specs.Counts.{Rose};
-ghost use Rattle.tilescope.specs.Answers.{AreRefused, AreAccepted, IsOneOf, IsStatus, IsUsage, IsUsagePrefix, IsFoundWritten, IsNoneWritten, HasSpecification, HasSpecificationByPack, HasNoSpecification, HasEnded, IsBeyondPack, IsSolved, IsSearchPrefix};
+ghost use Rattle.tilescope.specs.Answers.{AreRefused, AreAccepted, IsOneOf, IsStatus, IsUsage, IsUsagePrefix, IsFoundWritten, IsNoneWritten, HasSpecification, IsByPack, HasNoSpecification, HasEnded, IsBeyondPack, IsSolved, IsSearchPrefix};
 
 use crate::answer::{Answer, answer_to};
 use css_ledger::Ledger;
@@ -32,11 +32,11 @@ pub fn run_plain<S: Source, K: Sink>(
     ensures accepted { AreAccepted (map string_bytes words.now) → IsOneOf result.status (0 ∷ 1 ∷ 5 ∷ 6 ∷ []) }
 
     ensures found { result.status ≡ 0 → IsFoundWritten (map string_bytes words.now) result.ledger (K.held sink.old) (K.held sink.new) }
-    ensures valid { result.status ≡ 0 → HasSpecification result.ledger }
-    ensures by_pack { result.status ≡ 0 → HasSpecificationByPack (map string_bytes words.now) result.ledger }
+    ensures valid { result.status ≡ 0 → HasSpecification (map string_bytes words.now) result.ledger }
+    ensures by_pack { result.status ≡ 0 → IsByPack (map string_bytes words.now) result.ledger }
     ensures none { result.status ≡ 1 → IsNoneWritten (map string_bytes words.now) result.ledger (K.held sink.old) (K.held sink.new) }
-    ensures no_specification { result.status ≡ 1 → HasNoSpecification result.ledger }
-    ensures ended { result.status ≡ 1 → HasEnded result.ledger }
+    ensures no_specification { result.status ≡ 1 → HasNoSpecification (map string_bytes words.now) result.ledger }
+    ensures ended { result.status ≡ 1 → HasEnded (map string_bytes words.now) result.ledger }
     ensures beyond { result.status ≡ 1 → IsBeyondPack (map string_bytes words.now) result.ledger }
     ensures usage { result.status ≡ 2 → IsUsage (map string_bytes words.now) (K.held sink.old) (K.held sink.new) }
     ensures write_fault { result.status ≡ 5 → Rose (K.faults sink.old) (K.faults sink.new) }
