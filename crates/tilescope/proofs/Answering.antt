@@ -1,6 +1,6 @@
 -- Answers, from what was read and what was found.
 use Rattle.std.proofs.Common.{◌≡◌, ℕ, true, Result, Ok, Err, refl, sym, ◌∙◌, arith, inl, inr, length}
-use Rattle.std.specs.Prelude.{◌≢◌, ◌⊎◌, IfOk, IsNone, Option, List, [], ◌∷◌}
+use Rattle.std.specs.Prelude.{◌≢◌, ◌⊎◌, IfOk, IsNone, Option, Some, List, [], ◌∷◌}
 use Rattle.lists.specs.Members.IsIn.{here, later}
 use Rattle.outside.specs.Bytes.{GrewBy, GrewByPrefix}
 use Rattle.css_domain.specs.Ledgers.{done, is_all_done}
