@@ -80,11 +80,13 @@ module _ (words : List Text) where
   own a l why text s = record { accepted = a; books = l; kept = refl; root = s.explored.root; of_pack = s.explored.alone.of_rulebook }
 
   pub answer_valid : (status : ℕ) (text : Text) (ledger : Option TileBooks) → IsAnswer words status text ledger → status ≡ 0 → HasSpecification words ledger
+  unfolding own
   answer_valid _ _ _ (usage r) e = absurd (omega (arith, e))
   answer_valid _ _ _ (search a _ _ _ (found l text s)) e = record { own = own a l Found text s; entries = s.says.entries; spec = s.says.spec }
   answer_valid _ _ _ (search a _ _ _ (none l why text ne s)) e = absurd (omega (arith, e))
 
   pub answer_by_pack : (status : ℕ) (text : Text) (ledger : Option TileBooks) → IsAnswer words status text ledger → status ≡ 0 → IsByPack words ledger
+  unfolding own
   answer_by_pack _ _ _ (usage r) e = absurd (omega (arith, e))
   answer_by_pack _ _ _ (search a _ _ _ (found l text s)) e = record { own = own a l Found text s; tried = s.by_pack }
   answer_by_pack _ _ _ (search a _ _ _ (none l why text ne s)) e = absurd (omega (arith, e))
@@ -96,16 +98,19 @@ module _ (words : List Text) where
   answer_has_memory _ _ _ (search a _ _ _ (none l why text ne s)) e = omega (arith, e)
 
   pub answer_none : (status : ℕ) (text : Text) (ledger : Option TileBooks) → IsAnswer words status text ledger → status ≡ 1 → HasNoSpecification words ledger
+  unfolding own
   answer_none _ _ _ (usage r) e = absurd (omega (arith, e))
   answer_none _ _ _ (search a _ _ _ (found l text s)) e = absurd (omega (arith, e))
   answer_none _ _ _ (search a _ _ _ (none l why text ne s)) e = record { own = own a l why text s; none = (s.without ne).none; none_filed = (s.without ne).none_filed }
 
   pub answer_beyond : (status : ℕ) (text : Text) (ledger : Option TileBooks) → IsAnswer words status text ledger → status ≡ 1 → IsBeyondPack words ledger
+  unfolding own
   answer_beyond _ _ _ (usage r) e = absurd (omega (arith, e))
   answer_beyond _ _ _ (search a _ _ _ (found l text s)) e = absurd (omega (arith, e))
   answer_beyond _ _ _ (search a _ _ _ (none l why text ne s)) e = record { own = own a l why text s; beyond = (s.without ne).beyond }
 
   pub answer_ended : (status : ℕ) (text : Text) (ledger : Option TileBooks) → IsAnswer words status text ledger → status ≡ 1 → HasEnded words ledger
+  unfolding own
   answer_ended _ _ _ (usage r) e = absurd (omega (arith, e))
   answer_ended _ _ _ (search a _ _ _ (found l text s)) e = absurd (omega (arith, e))
   answer_ended _ _ _ (search a _ _ _ (none l why text ne s)) e = record { own = own a l why text s; why = ended_by l why ne s.explored.ends; normal = s.explored.normal; complete = s.explored.alone.complete }
