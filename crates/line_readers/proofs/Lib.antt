@@ -11,3 +11,4 @@ pub mod TermForms
 pub mod KindForms
 pub mod OutOfRange
 pub mod KindAnswers
+pub mod Arities

@@ -7,3 +7,4 @@ pub mod LineItems
 pub mod KindItems
 pub mod Terms
 pub mod Answers
+pub mod Arities

@@ -1,4 +1,5 @@
-ghost use Rattle.std.specs.Prelude.{◌≡◌, ◌∷◌, [], not, MatchOption, length};
+ghost use Rattle.std.specs.Prelude.{◌≡◌, ◌∷◌, [], not, ◌+◌, ◌<◌, nat_eq, MatchOption, IfSome, length};
+ghost use Rattle.std.specs.List.{count_by};
 ghost use Rattle.spec_lines.specs.Forms.{has_items};
 ghost use Rattle.spec_lines.specs.Items.{items};
 ghost use Rattle.line_readers.specs.Cuts.{IsFirstAt, IsNowhere, is_alone};
@@ -34,10 +35,19 @@ fn first_at(text: &[u8], byte: u8) -> Option<usize>
     None
 }
 
+/// How often a byte occurs.
+fn occurrences(text: &[u8], byte: u8) -> usize
+    ensures value { result ≡ count_by (λ b. nat_eq b byte) text.now }
+    ensures few { result < 18446744073709551615 }
+{
+    text.iter().filter(|b| **b == byte).count()
+}
+
 /// The first item of a text whose items have a byte between two, and the text after that byte.
 #[tactic(auto, using(crate::proofs::Cutting::cut_at, crate::proofs::Cutting::cut_nowhere))]
-fn cut(text: &[u8], byte: u8) -> (&[u8], Option<&[u8]>)
-    ensures { MatchOption result.1 (items byte text.now ≡ result.0.now ∷ []) (λ rest. items byte text.now ≡ result.0.now ∷ items byte rest.now) }
+pub fn cut(text: &[u8], byte: u8) -> (&[u8], Option<&[u8]>)
+    ensures shorter { IfSome result.1 (λ rest. length rest.now < length text.now) }
+    ensures items { MatchOption result.1 (items byte text.now ≡ result.0.now ∷ []) (λ rest. items byte text.now ≡ result.0.now ∷ items byte rest.now) }
 {
     match first_at(text, byte) {
         None => (text, None),
@@ -68,6 +78,17 @@ impl<'a> Items<'a> {
         let (item, rest) = cut(text, self.byte);
         self.rest = rest;
         Some(item)
+    }
+
+    /// How many items are left.
+    #[tactic(auto, using(crate::proofs::Arities::how_many))]
+    pub(crate) fn count(&self) -> usize
+        ensures { result ≡ length self.now }
+    {
+        match self.rest {
+            None => 0,
+            Some(text) => occurrences(text, self.byte) + 1,
+        }
     }
 
     /// Whether no item is left.

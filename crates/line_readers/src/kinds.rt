@@ -1,10 +1,11 @@
-ghost use Rattle.std.specs.Prelude.{◌≡◌, ℕ, List, true, option_map};
+ghost use Rattle.std.specs.Prelude.{◌≡◌, ℕ, List, true, option_map, Some};
 ghost use Rattle.std.specs.List.{list_all};
 ghost use Rattle.gridded.specs.declared.cell.Cell.{Cell};
 ghost use Rattle.gridded.specs.Orders.{cells_of};
 ghost use Rattle.rule_kinds.specs.declared.kind.Kind.TheVariants as kind;
 ghost use Rattle.spec_lines.specs.Ranges.{is_kind_in_range, is_small};
 ghost use Rattle.spec_lines.specs.Readings.{alone, direction_at};
+ghost use Rattle.line_readers.specs.Arities.{children_by, children_in};
 ghost use Rattle.line_readers.specs.Answers.{IsAnswer};
 ghost use Rattle.line_readers.specs.KindItems.{word_of_kind, sole, insert_read, place_read, cut_read, factor_read, infer_read, kind_read, rule_read, is_cut_in_range};
 
@@ -38,7 +39,7 @@ pub(crate) enum KindWord {
 }
 
 /// The kind whose word this is.
-fn word_of_kind(word: &[u8]) -> Option<KindWord>
+pub(crate) fn word_of_kind(word: &[u8]) -> Option<KindWord>
     ensures { result ≡ word_of_kind word.now }
 {
     if word == b"unit".as_slice() {
@@ -69,6 +70,31 @@ fn word_of_kind(word: &[u8]) -> Option<KindWord>
         return Some(KindWord::Infer);
     }
     None
+}
+
+/// How many children a kind has whose word has so many items behind it.
+fn children_by(word: KindWord, items: usize) -> usize
+    ensures { result ≡ children_by word items }
+{
+    match word {
+        KindWord::Unit | KindWord::Point | KindWord::Void => 0,
+        KindWord::Insert => 2,
+        KindWord::Place | KindWord::Factor => items,
+        KindWord::RowCut | KindWord::ColumnCut | KindWord::Infer => 1,
+    }
+}
+
+/// How many children a rule with these items has.
+pub(crate) fn children_in(mut items: Items<'_>) -> usize
+    ensures { result ≡ children_in (Some items.entry) }
+{
+    let Some(item) = items.next() else {
+        return 0;
+    };
+    let Some(word) = word_of_kind(item) else {
+        return 0;
+    };
+    children_by(word, items.count())
 }
 
 /// A kind without items.

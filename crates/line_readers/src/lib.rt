@@ -25,7 +25,9 @@ mod trace;
 mod words;
 
 pub use class_lines::{obs_line, req_line};
+pub use cuts::cut;
 pub use fault::ItemFault;
-pub use lines::{basis_line, entries_line, entry_line, grid_line, root_line, to_line};
-pub use rule_lines::rule_line;
+pub use lines::{announced, basis_line, entries_line, entry_line, grid_line, root_line, to_line};
+pub use numbers::Number;
+pub use rule_lines::{rule_children, rule_line};
 pub use term::terms_line;

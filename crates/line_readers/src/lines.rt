@@ -1,4 +1,4 @@
-ghost use Rattle.std.specs.Prelude.{◌≡◌, ℕ, Option, codes, option_and_then, option_map, IfOk};
+ghost use Rattle.std.specs.Prelude.{◌≡◌, ℕ, Option, codes, option_and_then, option_map, IfOk, MatchOption, None, Some};
 ghost use Rattle.perm_core.specs.Orders.{perm_cmp};
 ghost use Rattle.spec_lines.specs.Forms.{ascending};
 ghost use Rattle.spec_lines.specs.Forms.Line.{Basis as basis_value, Root as root_value, Count as count_value, Entry as entry_value, Grid as grid_value, Child as child_value};
@@ -64,18 +64,25 @@ fn one_number(mut items: Items<'_>) -> Option<Number>
     Number::read(item)
 }
 
-/// The number of the line `entries`.
-fn announced(line: &[u8]) -> Option<Number>
+/// The number of the line `entries`, by its items.
+fn counted(line: &[u8]) -> Option<Number>
     ensures { result ≡ option_and_then one_number (behind (codes "entries") (items 32 line.now)) }
 {
     one_number(behind(line, b"entries")?)
+}
+
+/// The number of the line `entries`, in range or not.
+pub fn announced(line: &[u8]) -> Option<Number>
+    ensures { MatchOption result (line_at AtCount line.now ≡ None) (λ n. line_at AtCount line.now ≡ Some (count_value n)) }
+{
+    counted(line)
 }
 
 /// The number of entries that the line `entries` announces.
 pub fn entries_line(line: &[u8]) -> Result<u32, ItemFault>
     ensures { IsLineAnswer (line_at AtCount line.now) (λ entries. count_value entries) result }
 {
-    let Some(number) = announced(line) else {
+    let Some(number) = counted(line) else {
         return Err(ItemFault::Form);
     };
     match number.up_to(100_000) {

@@ -7,7 +7,7 @@ use std::marker::Model;
 
 /// A decimal number of at most 39 digits. Contracts see the number.
 #[derive(Debug, Drop)]
-pub(crate) struct Number {
+pub struct Number {
     /// What the digits before the last 20 spell.
     front: u128,
     /// What the last 20 digits spell.
@@ -52,6 +52,16 @@ fn few_digits(text: &[u8]) -> Option<u128>
 }
 
 impl Number {
+    /// A number of 32 bits.
+    pub fn of(number: u32) -> Number
+        ensures { result ≡ number }
+    {
+        Number {
+            front: 0,
+            back: u128::from(number),
+        }
+    }
+
     /// The number that the text spells without leading zeros in 1 to 39 digits.
     pub(crate) fn read(text: &[u8]) -> Option<Number>
         ensures { result ≡ number_at text.now }
@@ -66,7 +76,7 @@ impl Number {
     }
 
     /// The number, where it is below 2^128.
-    pub(crate) fn value(&self) -> Option<u128>
+    pub fn value(&self) -> Option<u128>
         ensures { MatchOption result (2 ^ 128 ≤ self.now) (λ value. value ≡ self.now) }
     {
         self.front

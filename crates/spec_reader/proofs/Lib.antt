@@ -1,0 +1,11 @@
+pub mod Answering
+pub mod Cutting
+pub mod Finished
+pub mod Given
+pub mod Grown
+pub mod Inside
+pub mod Jumps
+pub mod Onward
+pub mod Parts
+pub mod Takings
+pub mod Walked

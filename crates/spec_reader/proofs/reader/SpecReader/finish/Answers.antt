@@ -1,0 +1,24 @@
+use Rattle.std.proofs.Common.{◌≡◌, true, rules, sym, subst}
+use Rattle.std.specs.Prelude.{None, not}
+use Rattle.std.proofs.lemmas.Bool.{and_from}
+use Rattle.spec_lines.specs.Forms.{has_items}
+use Rattle.spec_lines.specs.Faults.{is_done}
+use Rattle.spec_reader.specs.Ends.{ends, IsFileRead}
+use Rattle.spec_reader.specs.States.{state_of}
+use Rattle.spec_reader.specs.Positions.{place_of}
+use Rattle.spec_reader.proofs.Finished.{finished, file_built}
+use Rattle.spec_reader.proofs.reader.SpecReader.finish.Goals as goal
+
+pub returns : goal.returns
+returns c =
+    let r = c.self.inside.reading in
+    let d = c.draft.inside in
+    let done : is_done (place_of r.position) ≡ true = search rules in
+    let none : r.limit ≡ None = search rules in
+    let nothing : not (has_items c.args.rest.now) ≡ true = search rules in
+    let read : IsFileRead (state_of r) (file_built r.draft) = finished r c.self.invariant done none in (
+      subst (λ s. ends s c.args.rest.now ≡ true) c.self.view_is (and_from (is_done (place_of r.position)) (not (has_items c.args.rest.now)) done nothing),
+      subst (λ s. IsFileRead s (record { basis = d.basis; root_trace = d.root_trace; entries = c.of.result; terms = d.terms })) c.self.view_is
+          (subst (λ es. IsFileRead (state_of r) (record { basis = d.basis; root_trace = d.root_trace; entries = es; terms = d.terms })) (sym c.of.ensures)
+          (subst (λ b. IsFileRead (state_of r) (file_built b)) (sym c.draft.view_is) read)),
+    )

@@ -1,0 +1,8 @@
+use Rattle.std.proofs.Common.{refl, sym, subst}
+use Rattle.spec_lines.specs.Follows.Place.{AtRoot}
+use Rattle.spec_reader.specs.Values.{IsReading}
+use Rattle.spec_reader.proofs.Given.{plainly}
+use Rattle.spec_reader.proofs.reading.read_root.Goals as goal
+
+pub returns-in-Err : goal.returns-in-Err
+returns-in-Err c = subst (IsReading AtRoot c.args.line.now) (sym c.without_value.ensures) (plainly AtRoot c.args.line.now c.in-Err.fault refl c.in-Err.ensures)

@@ -1,0 +1,7 @@
+pub mod Drafts
+pub mod Ends
+pub mod Kept
+pub mod Positions
+pub mod States
+pub mod Values
+pub mod Walks
