@@ -7,6 +7,8 @@ mod places;
 mod reader;
 mod readers;
 mod reading;
+#[cfg(test)]
+mod tests;
 mod values;
 
 pub use drafts::DraftEntry;
