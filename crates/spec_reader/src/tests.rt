@@ -32,10 +32,10 @@ fn whole_texts_are_read(rt: HostRuntime) -> Result<(), Fail> {
     Ok(())
 }
 
-/// The number of line feeds before a place, and one more.
-fn line_of(text: &[u8], place: usize) -> u32 {
+/// The number of line feeds, and one more.
+fn line_behind(front: &[u8]) -> u32 {
     let mut line = 1u32;
-    for byte in &text[..place] {
+    for byte in front {
         if *byte == b'\n' {
             line = line.saturating_add(1);
         }
@@ -48,8 +48,9 @@ fn every_prefix_ends_early(rt: HostRuntime) -> Result<(), Fail> {
     let alloc = rt.alloc();
     for text in [POINTLESS, SHORT, CATALAN] {
         for place in 0..text.len() {
-            let line = line_of(text, place);
-            let fault = fault_of(alloc, &text[..place])?;
+            let front = &text[..place];
+            let line = line_behind(front);
+            let fault = fault_of(alloc, front)?;
             assert_eq!(rt; fault, Some(TextFault::Grammar { line }), "at {place}");
         }
     }
