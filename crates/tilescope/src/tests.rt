@@ -1,5 +1,4 @@
 use crate::run::run_plain;
-use css_domain::Shape;
 use outside::{MemSink, SteadySink, SteadySource};
 use std::alloc::{AllocError, Global};
 use std::process::Abort;
@@ -89,45 +88,6 @@ fn first_rows(rt: HostRuntime) -> Result<(), Fail> {
     for (line, status, text) in rows {
         expect(&rt, alloc, line, status, text)?;
     }
-    Ok(())
-}
-
-/// The expanded classes, all classes and the rules of the ledgers that searches return.
-#[test]
-fn ledgers_of_searches(rt: HostRuntime) -> Result<(), Fail> {
-    let alloc = rt.alloc();
-    let rows = [
-        ("search 12,21 --pack i --terms 3", 3, 3, 3),
-        ("search 132 --pack i --terms 10", 3, 3, 2),
-        ("search 1 --pack i --terms 3", 1, 1, 1),
-    ];
-    for (line, expanded, classes, rules) in rows {
-        let words = words(alloc, line)?;
-        let mut source = SteadySource::new(Vec::new(alloc));
-        let mut sink = SteadySink::new(alloc);
-        let ended = run_plain(alloc, words.as_slice(), &mut source, &mut sink);
-        let counts = ended.ledger.as_ref().ok_or("lost")?.counts();
-        assert_eq!(rt; counts.expanded, expanded, "at {line}");
-        assert_eq!(rt; counts.classes, classes, "at {line}");
-        assert_eq!(rt; counts.rules, rules, "at {line}");
-    }
-    Ok(())
-}
-
-/// The insertion into the root, whose children are the unit and the point.
-#[test]
-fn first_record_of_the_insertion(rt: HostRuntime) -> Result<(), Fail> {
-    let alloc = rt.alloc();
-    let words = words(alloc, "search 12,21 --pack i --terms 3")?;
-    let mut source = SteadySource::new(Vec::new(alloc));
-    let mut sink = SteadySink::new(alloc);
-    let ended = run_plain(alloc, words.as_slice(), &mut source, &mut sink);
-    let records = ended.ledger.as_ref().ok_or("lost")?.records(alloc)?;
-    let first = records.first().ok_or("none")?;
-    assert_eq!(rt; first.parent, 0);
-    assert!(rt; matches!(first.shape, Shape::Union));
-    let children = [(1u32, false), (2, true)];
-    assert_eq!(rt; first.children.as_slice(), children.as_slice());
     Ok(())
 }
 
