@@ -67,7 +67,7 @@ completions_continue m s (p ∷ g) h k =
     come_with true x y n = n
     come_with false x y n = elim n [ ]
 
-in_cell_continues : (m : GridMap) (s : List Point) (p : Point) (g h : List Point) (x y : ℕ) → IsIn h (in_cell m s p g x y) → (r : List Point) × (h ≡ s ++ put p x y ∷ r) × (letters_of r ≡ letters_of g)
+pub in_cell_continues : (m : GridMap) (s : List Point) (p : Point) (g h : List Point) (x y : ℕ) → IsIn h (in_cell m s p g x y) → (r : List Point) × (h ≡ s ++ put p x y ∷ r) × (letters_of r ≡ letters_of g)
 in_cell_continues m s p g h x y k =
     let c = completions_continue m (s ++ put p x y ∷ []) g h (come_with (may_come s (put p x y)) k) in
     (c.0, c.1 ∙ append_assoc s (put p x y ∷ []) c.0, c.2)

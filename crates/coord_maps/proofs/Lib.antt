@@ -12,3 +12,4 @@ pub mod Stretched
 pub mod Ascents
 pub mod Rows
 pub mod Thirds
+pub mod Barred

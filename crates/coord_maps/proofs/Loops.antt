@@ -1,9 +1,10 @@
 -- What the loops over columns and rows have listed so far.
-use Rattle.std.proofs.Common.{◌≡◌, ℕ, zero, suc, ◌+◌, ◌-◌, ◌<◌, ◌≤◌, true, false, List, [], ◌∷◌, ◌++◌, length, set, drop, refl, sym, ap, ◌∙◌, arith, append_assoc, append-nil, inl, inr, ⊎_elim}
+use Rattle.std.proofs.Common.{◌≡◌, ℕ, zero, suc, ◌+◌, ◌-◌, ◌<◌, ◌≤◌, Bool, true, false, List, [], ◌∷◌, ◌++◌, length, set, drop, refl, sym, ap, ◌∙◌, arith, append_assoc, append-nil, inl, inr, ⊎_elim}
 use Rattle.std.specs.Prelude.{◌&&◌, ◌⊎◌, nat_le}
-use Rattle.std.specs.List.{range_with_len, flat_map}
+use Rattle.std.specs.List.{filter, range_with_len, flat_map}
 use Rattle.std.proofs.lemmas.Bool.Decides.{nat_tests}
 use Rattle.std.proofs.lemmas.List.Concat.{flat_map-append}
+use Rattle.std.proofs.lemmas.List.Elements.{filter-append}
 use Rattle.gridded.specs.declared.cell.Cell.{Cell}
 use Rattle.gridded.specs.Grids.{Point}
 use Rattle.coord_maps.specs.declared.grid_map.GridMap.{GridMap}
@@ -21,10 +22,12 @@ flat_map_more f first y h =
     ap (λ n. flat_map f (range_with_len first n)) up ∙ ap (flat_map f) (range_more first (y - first)) ∙ flat_map-append f (range_with_len first (y - first)) ((first + (y - first)) ∷ [])
     ∙ ap (λ r. flat_map f (range_with_len first (y - first)) ++ r) (append-nil (f (first + (y - first)))) ∙ ap (λ n. flat_map f (range_with_len first (y - first)) ++ f n) there
 
--- one more step of a loop
-pub grown : {Z : Type 0} (f : ℕ → List Z) (base now next : List Z) (first y : ℕ) → first ≤ y → now ≡ base ++ flat_map f (range_with_len first (y - first)) → next ≡ now ++ f y → next ≡ base ++ flat_map f (range_with_len first (y + 1 - first))
-grown f base now next first y h e k =
-    k ∙ ap (λ r. r ++ f y) e ∙ append_assoc base (flat_map f (range_with_len first (y - first))) (f y) ∙ ap (λ r. base ++ r) (sym (flat_map_more f first y h))
+-- one more step of a loop that lists what passes a test
+pub grown : {Z : Type 0} (test : Z → Bool) (f : ℕ → List Z) (base now next : List Z) (first y : ℕ) → first ≤ y
+    → now ≡ base ++ filter test (flat_map f (range_with_len first (y - first))) → next ≡ now ++ filter test (f y) → next ≡ base ++ filter test (flat_map f (range_with_len first (y + 1 - first)))
+grown test f base now next first y h e k =
+    k ∙ ap (λ r. r ++ filter test (f y)) e ∙ append_assoc base (filter test (flat_map f (range_with_len first (y - first)))) (filter test (f y))
+    ∙ ap (λ r. base ++ r) (sym (ap (filter test) (flat_map_more f first y h) ∙ filter-append test (flat_map f (range_with_len first (y - first))) (f y)))
 
 -- a run that leaves out numbers which give nothing
 flat_map-trim : {Z : Type 0} (f : ℕ → List Z) (a n b e : ℕ) → a ≤ b → e ≤ a + n → ((i : ℕ) → a ≤ i → i < a + n → (i < b) ⊎ (e ≤ i) → f i ≡ []) → flat_map f (range_with_len a n) ≡ flat_map f (range_with_len b (e - b))

@@ -1,12 +1,12 @@
 -- What the collapse keeps: it moves no line past another.
 use Rattle.std.proofs.Common.{◌≡◌, ℕ, ◌+◌, ◌<◌, ◌≤◌, Bool, true, false, List, [], ◌∷◌, length, get_or, set, take, refl, sym, ap, ◌∙◌, arith}
-use Rattle.std.specs.Prelude.{◌&&◌, not, map, nat_lt, nat_le}
+use Rattle.std.specs.Prelude.{◌&&◌, not, nat_lt, nat_le}
 use Rattle.std.specs.List.{list_all}
 use Rattle.std.proofs.lemmas.Bool.Decides.{nat_tests}
 use Rattle.std.proofs.lemmas.List.{length-map, take_more, take_more_set, map-append}
 use Rattle.std.proofs.lemmas.Bool.{and_parts, and_from}
 use Rattle.gridded.specs.declared.cell.Cell.{Cell}
-use Rattle.gridded.specs.Grids.{Point, points, letter_of, may_follow, is_consistent, IsGridded, FitTogether}
+use Rattle.gridded.specs.Grids.{Point, letter_of, may_follow, is_consistent, IsGridded, FitTogether}
 use Rattle.gridded.specs.Orders.{letters_of, cells_of}
 use Rattle.coord_maps.specs.LineMaps.{Cut, old_line}
 use Rattle.coord_maps.specs.GridMaps.{old_cell, old_cells, collapse}

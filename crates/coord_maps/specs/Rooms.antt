@@ -13,4 +13,5 @@ pub record IsRoom (m : GridMap) (s : List Point) (p : Point) (r : Room) : Type 0
   pub low_in : first_line m.rows p.cell.y ≤ r.low
   pub top_in : r.top < first_line m.rows p.cell.y + parts_of m.rows p.cell.y
   pub few : r.top < 8
+  pub narrow : r.right ≤ 8
   pub told : (x y : ℕ) → first_line m.columns p.cell.x ≤ x → first_line m.rows p.cell.y ≤ y → y < first_line m.rows p.cell.y + parts_of m.rows p.cell.y → may_come s (put p x y) ≡ (nat_le r.left x && (nat_le r.low y && nat_le y r.top))

@@ -14,7 +14,7 @@ pub use counting::preimage_count;
 pub use grid_map::GridMap;
 pub use laws::{preimages_are_listed_once, stretch_keeps_members};
 pub use line_map::LineMap;
-pub use listing::{add_preimages, preimages};
+pub use listing::{add_preimages, add_preimages_outside, preimages};
 pub use stretching::stretch;
 
 #[cfg(test)]

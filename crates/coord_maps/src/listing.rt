@@ -1,13 +1,15 @@
-ghost use Rattle.std.specs.Prelude.{◌≡◌, ◌<◌, ◌≤◌, ◌++◌, true, length, drop, IfOk};
+ghost use Rattle.std.specs.Prelude.{◌≡◌, ◌<◌, ◌≤◌, ◌++◌, true, false, not, length, drop, filter, IfOk};
 ghost use Rattle.std.specs.List.Sorted.{IsStrictlySortedBy};
 ghost use Rattle.gridded.specs.Grids.{IsGridded, is_consistent};
+ghost use Rattle.gridded.specs.CellSets.{is_among as has_cell};
 ghost use Rattle.gridded.specs.Orders.{gridded_cmp};
+ghost use Rattle.gridded.specs.Places.{touches};
 ghost use Rattle.coord_maps.specs.GridMaps.{fits_old};
 ghost use Rattle.coord_maps.specs.Preimages.{preimages, completions, placed_points, point_at};
 ghost use Rattle.coord_maps.specs.Rooms.{IsRoom};
 
 use crate::grid_map::GridMap;
-use gridded::{Cell, Gridded};
+use gridded::{Cell, CellSet, Gridded};
 use std::alloc::{AllocError, Global};
 
 /// The new columns from `left` to below `right`, and the new rows from `low` to `top`.
@@ -50,10 +52,13 @@ fn room_of(map: &GridMap, g: &Gridded, cells: &[Cell; 9], placed: usize) -> Room
     }
 }
 
-/// Adds the preimages whose first points are in some cells, in ascending order.
+/// Adds the preimages whose first points are in some cells, none of them barred, and whose other points are not in
+/// barred cells either, in ascending order. A point that would be in a barred cell is left out with all that would
+/// follow.
 fn list_from(
     map: &GridMap,
     g: &Gridded,
+    barred: CellSet,
     cells: [Cell; 9],
     placed: usize,
     found: &mut Vec<Gridded>,
@@ -61,8 +66,9 @@ fn list_from(
     requires inside { fits_old map.now g.now ≡ true }
     requires within { placed ≤ length g.now }
     requires consistent { is_consistent (placed_points g.now cells placed) ≡ true }
+    requires clear { touches (has_cell barred) (placed_points g.now cells placed) ≡ false }
     ensures gridded { IsGridded g.now }
-    ensures added { IfOk result (λ _. found.new.items ≡ found.old.items ++ completions map.now (placed_points g.now cells placed) (drop placed g.now)) }
+    ensures added { IfOk result (λ _. found.new.items ≡ found.old.items ++ filter (λ h. not (touches (has_cell barred) h)) (completions map.now (placed_points g.now cells placed) (drop placed g.now))) }
 {
     let letters = g.letters();
     if placed == letters.len() {
@@ -72,9 +78,13 @@ fn list_from(
     let room = room_of(map, g, &cells, placed);
     for x in room.left..room.right {
         for y in room.low..room.top + 1 {
+            let cell = Cell { x, y };
+            if barred.has(cell) {
+                continue;
+            }
             let mut longer = cells;
-            longer[placed] = Cell { x, y };
-            list_from(map, g, longer, placed + 1, found)?;
+            longer[placed] = cell;
+            list_from(map, g, barred, longer, placed + 1, found)?;
         }
     }
     Ok(())
@@ -88,7 +98,24 @@ pub fn add_preimages(map: &GridMap, g: &Gridded, found: &mut Vec<Gridded>) -> Re
     ensures ascending { IfOk result (λ _. IsStrictlySortedBy gridded_cmp (preimages map.now g.now)) }
 {
     map.kept();
-    list_from(map, g, [Cell { x: 0, y: 0 }; 9], 0, found)?;
+    list_from(map, g, CellSet::none(), [Cell { x: 0, y: 0 }; 9], 0, found)?;
+    Ok(())
+}
+
+/// Adds the gridded permutations of the new grid that collapse to `g` and have no point in the barred cells at the
+/// end of a list, in ascending order. The others are not gone through: what has a point in a barred cell is left out
+/// as soon as that point is placed. `g` lies in the old grid (docs/RULES.md, "Grid maps").
+pub fn add_preimages_outside(
+    map: &GridMap,
+    g: &Gridded,
+    barred: CellSet,
+    found: &mut Vec<Gridded>,
+) -> Result<(), AllocError>
+    requires { fits_old map.now g.now ≡ true }
+    ensures added { IfOk result (λ _. found.new.items ≡ found.old.items ++ filter (λ h. not (touches (has_cell barred) h)) (preimages map.now g.now)) }
+{
+    map.kept();
+    list_from(map, g, barred, [Cell { x: 0, y: 0 }; 9], 0, found)?;
     Ok(())
 }
 

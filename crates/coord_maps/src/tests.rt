@@ -2,10 +2,10 @@ ghost use Rattle.std.specs.Prelude.{◌≡◌, ◌≤◌, IfOk};
 ghost use Rattle.gridded.specs.Grids.{points};
 
 use crate::{
-    GridMap, LineMap, add_preimages, collapse, preimage_count, preimages,
+    GridMap, LineMap, add_preimages, add_preimages_outside, collapse, preimage_count, preimages,
     preimages_are_listed_once, stretch, stretch_keeps_members,
 };
-use gridded::{Cell, Gridded, GriddedFault};
+use gridded::{Cell, CellSet, Gridded, GriddedFault};
 use sequences::Sequence;
 use std::alloc::Global;
 use std::test::Fail;
@@ -71,6 +71,26 @@ fn preimages_of_a_rising_pair(rt: HostRuntime) -> Result<(), Fail> {
     add_preimages(&map, &rising, &mut listed)?;
     assert_eq!(rt; listed.len(), 72);
     assert_eq!(rt; preimage_count(&map, &rising), 36);
+    Ok(())
+}
+
+/// A point in one of the five cells left, and a second one right of and above it or in its lines.
+#[test]
+fn preimages_outside_the_middle_cross(rt: HostRuntime) -> Result<(), Fail> {
+    let alloc = rt.alloc();
+    let map = single(3, 3);
+    let rising = pair(alloc, [0, 1], [cell(0, 0), cell(0, 0)])?;
+    let sides = CellSet::none().with(cell(0, 1)).with(cell(2, 1));
+    let cross = sides.with(cell(1, 0)).with(cell(1, 2));
+    let mut listed = Vec::new(alloc);
+    add_preimages_outside(&map, &rising, cross, &mut listed)?;
+    assert_eq!(rt; listed.len(), 5 + 2 + 2 + 2 + 1);
+    let second_barred = pair(alloc, [0, 1], [cell(0, 0), cell(1, 2)])?;
+    let middle = pair(alloc, [0, 1], [cell(0, 0), cell(1, 1)])?;
+    assert!(rt; !listed.contains(&second_barred));
+    assert!(rt; listed.contains(&middle));
+    add_preimages_outside(&map, &rising, CellSet::none(), &mut listed)?;
+    assert_eq!(rt; listed.len(), 12 + 36);
     Ok(())
 }
 

@@ -1,8 +1,11 @@
-use Rattle.std.proofs.Common.{◌∙◌, ◌++◌, ap}
+use Rattle.std.proofs.Common.{◌∙◌, ◌++◌, [], ap}
+use Rattle.std.specs.List.{filter}
+use Rattle.coord_maps.specs.Preimages.{completions}
 use Rattle.gridded.proofs.Holding.{is_true}
 use Rattle.coord_maps.proofs.Placed.{gridded_below}
 use Rattle.coord_maps.proofs.Lists.{preimages_listed}
 use Rattle.coord_maps.proofs.Ascents.{preimages_ascend}
+use Rattle.coord_maps.proofs.Barred.{stays_out, all_stay_out}
 use Rattle.coord_maps.proofs.listing.add_preimages.Goals as goal
 
 pub returns : goal.returns
@@ -10,6 +13,6 @@ returns c =
     let gridded = c.in_ok-list_from.ensures.gridded in
     let all = preimages_listed c.args.map.now c.args.g.now c.kept.ensures (gridded_below c.args.g.now gridded) (is_true _ gridded.distinct) c.requires in
     record {
-      added = c.in_ok-list_from.ensures.added ∙ ap (λ r. c.args.found.now.items ++ r) all;
+      added = c.in_ok-list_from.ensures.added ∙ ap (λ r. c.args.found.now.items ++ r) (ap (λ set. filter (stays_out set) (completions c.args.map.now [] c.args.g.now)) c.none.ensures ∙ all_stay_out (completions c.args.map.now [] c.args.g.now) ∙ all);
       ascending = preimages_ascend c.args.map.now c.args.g.now all;
     }

@@ -53,6 +53,7 @@ returns c =
       low_in = omega (arith, low_is, c.loop-place.invariant.low_in);
       top_in = omega (arith, top_is, c.loop-place.invariant.top_in, some);
       few = omega (arith, c.end_line-top.ensures.few, c.loop-place.invariant.top_in);
+      narrow = c.end_line.ensures.few;
       told = λ x y a b d.
           (λ i. may_come (placed_points c.args.g.now c.args.cells.now (sym same i)) (let q : Point = record { letter = sym (letter_at c.args.g.now c.args.placed within) i; cell = record { x = x; y = y } } in q))
           ∙ c.loop-place.invariant.told x y (omega (arith, left_is, a)) (omega (arith, low_is, b)) (omega (arith, top_is, d));
