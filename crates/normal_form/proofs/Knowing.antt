@@ -1,7 +1,7 @@
 -- What the first step that applies tells of the tiling that it leaves.
-use Rattle.std.proofs.Common.{◌≡◌, ℕ, Bool, true, false, cond, List, [], ◌∷◌, refl, sym, ap, ◌∙◌, subst}
-use Rattle.std.specs.Prelude.{◌&&◌, not, map, Option, Some, None, find}
-use Rattle.std.specs.List.{list_any, filter}
+use Rattle.std.proofs.Common.{◌≡◌, ℕ, Bool, true, false, cond, List, refl, sym, ◌∙◌, subst}
+use Rattle.std.specs.Prelude.{◌&&◌, not, Option, Some, None, find}
+use Rattle.std.specs.List.{list_any}
 use Rattle.std.specs.Option.{option_or}
 use Rattle.std.proofs.lemmas.List.Kept.{IsStrictlySortedBy-filter}
 use Rattle.std.proofs.lemmas.Bool.{and_parts as and_true, not-true as not_true}
@@ -15,7 +15,7 @@ use Rattle.steps.specs.declared.Step.{Step}
 use Rattle.steps.specs.declared.Step.TheVariants.{Min, Clean, Lists, Column, Row, Void}
 use Rattle.steps.specs.Steps.{step_applies, step_result, is_isolated, can_be_cleaned}
 use Rattle.steps.specs.Traces.{first_step}
-use Rattle.steps.proofs.ListTests.{some_passes, which_passes, none_passes}
+use Rattle.steps.proofs.ListTests.{some_passes, which_passes}
 use Rattle.steps.proofs.Shrinks.{ascending_list}
 use Rattle.normal_form.specs.Known.{OnlyLines, IsKnown, known_after}
 use Rattle.normal_form.proofs.Found.{found_is_in, none_found, none_to_find}
@@ -40,7 +40,7 @@ none_left xs ys h = go (list_any (holds_another ys) ys) refl
         let none = (h w.0 w.1).1 in
         absurd cc
 
-min_is_done : (t : Tiles) → IsTiling t → step_applies Min (step_result Min t) ≡ false
+pub min_is_done : (t : Tiles) → IsTiling t → step_applies Min (step_result Min t) ≡ false
 unfolding step_applies step_result
 min_is_done t k =
     let ascends = IsStrictlySortedBy-filter gridded_cmp (λ g. not (holds_another t.obstructions g)) t.obstructions k.obstructions_ascend in

@@ -8,3 +8,7 @@ pub mod Tilings
 pub mod LinesAlone
 pub mod Knowing
 pub mod UsedLines
+pub mod RequiredCells
+pub mod RequiredFirst
+pub mod Thinning
+pub mod ThinnedSteps

@@ -1,6 +1,6 @@
 -- Where only columns and rows can go, only columns and rows can go once one has gone.
-use Rattle.std.proofs.Common.{◌≡◌, ℕ, ◌<◌, Bool, true, false, cond, List, [], ◌∷◌, length, refl, sym, ap, ◌∙◌, subst, ⊎_elim, arith}
-use Rattle.std.specs.Prelude.{◌&&◌, ◌||◌, ◌==◌, ◌+◌, not, map, nat_lt, count_by, sum_by}
+use Rattle.std.proofs.Common.{◌≡◌, ℕ, ◌<◌, Bool, true, false, cond, List, [], ◌∷◌, refl, sym, ap, ◌∙◌, subst, ⊎_elim, arith}
+use Rattle.std.specs.Prelude.{◌&&◌, ◌||◌, ◌==◌, ◌+◌, not, map, nat_lt, count_by}
 use Rattle.std.specs.List.{filter, list_any, list_all}
 use Rattle.std.specs.List.Sorted.{IsStrictlySortedBy}
 use Rattle.std.specs.Ordering.{is_eq}
@@ -18,7 +18,7 @@ use Rattle.lists.proofs.Members.{from_IsIn-map, IsIn-filter, from_IsIn-filter}
 use Rattle.gridded.specs.declared.Axis.{Axis}
 use Rattle.gridded.specs.declared.Axis.TheVariants as axis
 use Rattle.gridded.specs.declared.Cell.{Cell}
-use Rattle.gridded.specs.Axes.{line_of, with_line, is_on, shares_line}
+use Rattle.gridded.specs.Axes.{line_of, is_on, shares_line}
 use Rattle.gridded.specs.Grids.{Point, holds, cells_in}
 use Rattle.gridded.specs.Orders.{cell_eq, gridded_cmp, gridded_eq, cells_of}
 use Rattle.gridded.specs.OrderLaws.{gridded_eq_decides, gridded_ties}
@@ -27,7 +27,7 @@ use Rattle.gridded.specs.Places.{fits_grid, has_one_point_in}
 use Rattle.tiling_core.specs.Same.{tiles_eq, tiles_eq_decides}
 use Rattle.gridded.specs.Small.{point_at, rising, falling}
 use Rattle.tiling_core.specs.Patterns.{is_among, forbids, active_cells, holds_another, requires_list}
-use Rattle.steps.specs.declared.Step.TheVariants.{Min, Clean, Lists, Column, Row, Void}
+use Rattle.steps.specs.declared.Step.TheVariants.{Min, Clean, Lists, Void}
 use Rattle.steps.specs.Steps.{step_applies, is_hopeless, is_isolated, is_other_list, can_be_cleaned, implies_list, is_implied, is_useless, is_untidy, are_untidy, sides, misses, is_blank, close_cell, close_up, without_line}
 use Rattle.tiling_core.specs.Roots.{void_tiling}
 use Rattle.steps.proofs.ListTests.{each_passes, some_passes, which_passes, none_passes, list_all-agree, list_any-agree, list_any-map, at_each}

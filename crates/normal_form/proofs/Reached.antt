@@ -1,22 +1,15 @@
--- What the steps so far have led to.
+-- Laws of what the steps so far have led to.
 use Rattle.std.proofs.Common.{◌≡◌, ◌<◌, Bool, true, false, List, [], ◌∷◌, ◌++◌, refl, sym, subst, append_assoc, append-nil}
 use Rattle.std.specs.Prelude.{Some, None, if◌then◌else◌}
-use Rattle.gridded.specs.Grids.{Point}
 use Rattle.tiling_core.specs.Tiles.{Tiles, IsTiling}
 use Rattle.steps.specs.declared.Step.{Step}
-use Rattle.steps.specs.Steps.{step_applies, step_result, rename}
+use Rattle.steps.specs.Steps.{step_applies, step_result}
 use Rattle.steps.specs.Traces.{first_step, replay, IsTrace, IsNormal}
 use Rattle.steps.specs.Traces.IsTrace.{ended, then_step}
-use Rattle.steps.specs.Kept.{KeepsMembers, rename_all}
-use Rattle.steps.proofs.Replays.{one_after, keeps_itself}
 use Rattle.normal_form.specs.Measure.{size}
+use Rattle.normal_form.specs.Reached.{IsReached}
 use Rattle.normal_form.proofs.Shrinking.{steps_shrink}
 use Rattle.normal_form.proofs.Tracing.{first_applies, normal_where_none}
-
--- ---- members
-rename_then : (steps : List Step) (s : Step) (g : List Point) → rename s (rename_all steps g) ≡ rename_all (steps ++ s ∷ []) g
-rename_then [] s g = refl
-rename_then (r ∷ steps) s g = rename_then steps s (rename r g)
 
 -- ---- replay
 replay_then : (t : Tiles) (steps : List Step) (u : Tiles) (s : Step) → replay t steps ≡ Some u → step_applies s u ≡ true → replay t (steps ++ s ∷ []) ≡ Some (step_result s u)
@@ -32,24 +25,14 @@ replay_then t (r ∷ steps) u s e f = go (step_applies r t) (λ h. replay_then (
     go false ih h = absurd cc
 
 -- ---- so far
--- u is reached from t by first steps, and what goes on from u goes on from t
-pub record IsReached (t : Tiles) (steps : List Step) (u : Tiles) : Type 0 where
-  pub traced : (rest : List Step) → IsTrace u rest → IsTrace t (steps ++ rest)
-  pub replayed : replay t steps ≡ Some u
-  pub members : KeepsMembers (rename_all steps) t u
-
 pub reached_itself : (t : Tiles) → IsReached t [] t
-reached_itself t = record { traced = λ rest m. m; replayed = refl; members = keeps_itself t }
+reached_itself t = record { traced = λ rest m. m; replayed = refl }
 
-pub reached_next : (t : Tiles) (steps : List Step) (u v : Tiles) (s : Step) → IsReached t steps u → first_step u ≡ Some s → KeepsMembers (rename s) u v → v ≡ step_result s u → IsReached t (steps ++ s ∷ []) v
-reached_next t steps u v s r e kept same = rw same (record {
+pub reached_next : (t : Tiles) (steps : List Step) (u v : Tiles) (s : Step) → IsReached t steps u → first_step u ≡ Some s → v ≡ step_result s u → IsReached t (steps ++ s ∷ []) v
+reached_next t steps u v s r e same = rw same (record {
   traced = λ rest m. subst (λ (all : List Step). IsTrace t all) (sym (append_assoc steps (s ∷ []) rest)) (r.traced (s ∷ rest) (then_step e m));
-  replayed = replay_then t steps u s r.replayed a;
-  members = subst (λ (f : List Point → List Point). KeepsMembers f t (step_result s u)) (λ i. λ g. rename_then steps s g i) (one_after (rename_all steps) (rename s) t u (step_result s u) r.members (subst (λ (w : Tiles). KeepsMembers (rename s) u w) same kept));
+  replayed = replay_then t steps u s r.replayed (first_applies u s e);
 })
-  where
-    a : step_applies s u ≡ true
-    a = first_applies u s e
 
 pub reached_end : (t : Tiles) (steps : List Step) (u : Tiles) → IsReached t steps u → first_step u ≡ None → IsTrace t steps
 reached_end t steps u r e = subst (λ (all : List Step). IsTrace t all) (append-nil steps) (r.traced [] (ended e))

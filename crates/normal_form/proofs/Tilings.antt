@@ -39,7 +39,7 @@ use Rattle.sequences.proofs.Sums.{in_order_sum}
 use Rattle.normal_form.proofs.Tracing.{first_applies, at_end, begins, none_applies}
 
 -- ---- lists stay short
-ones : {X : Type 0} (xs : List X) → sum_by (λ _. 1) xs ≡ length xs
+pub ones : {X : Type 0} (xs : List X) → sum_by (λ _. 1) xs ≡ length xs
 ones [] = refl
 ones (x ∷ xs) = omega (arith, ones xs, sum_by-cons (λ _. 1) x xs)
 

@@ -1,9 +1,7 @@
 -- What a set of cells tells of the lines that no pattern touches.
-use Rattle.std.specs.Prelude.{◌≡◌, ℕ, Bool, not, ◌&&◌, ◌||◌, ◌==◌, List, length}
-use Rattle.std.specs.List.{list_all, list_any}
-use Rattle.gridded.specs.declared.axis.Axis.{Axis}
+use Rattle.std.specs.Prelude.{◌≡◌, Bool, not, ◌&&◌, ◌||◌, ◌==◌, List, length}
+use Rattle.std.specs.List.{list_any}
 use Rattle.gridded.specs.declared.cell.Cell.{Cell}
-use Rattle.gridded.specs.Axes.{is_on}
 use Rattle.gridded.specs.Grids.{Point}
 use Rattle.gridded.specs.Places.{touches}
 use Rattle.tiling_core.specs.Tiles.{Tiles}

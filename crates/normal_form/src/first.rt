@@ -1,7 +1,10 @@
 // The first step that applies.
 ghost use Rattle.std.specs.Prelude.{◌≡◌, ◌∷◌, [], find, map, true};
 ghost use Rattle.std.specs.List.{range_with_len};
+ghost use Rattle.gridded.specs.CellSets.{cells_that};
 ghost use Rattle.gridded.specs.Grids.{cells_in};
+ghost use Rattle.gridded.specs.Small.{point_at};
+ghost use Rattle.tiling_core.specs.Patterns.{requires_list};
 ghost use Rattle.tiling_core.specs.Tiles.{IsTiling};
 ghost use Rattle.steps.specs.Steps.{step_applies};
 ghost use Rattle.steps.specs.Traces.{first_step};
@@ -12,25 +15,41 @@ ghost use Rattle.normal_form.specs.Lines.{AreUsed};
 
 use crate::known::Known;
 use crate::lines::{line_applies, used_cells};
+use crate::required::required_cells;
 use gridded::{Cell, CellSet};
 use steps::{Step, applies};
 use tiling_core::Tiling;
 
+/// Whether a step applies, a cell being looked for among those whose point alone is required.
+fn cell_applies(step: Step, tiling: &Tiling, required: CellSet) -> bool
+    requires { required ≡ cells_that (λ c. requires_list tiling.now (point_at c ∷ [])) }
+    ensures { result ≡ step_applies step tiling.now }
+{
+    if let Step::Clean(cell) = step {
+        if cell.x < 8 && cell.y < 8 && !required.has(cell) {
+            return false;
+        }
+    }
+    applies(step, tiling)
+}
+
 /// The first cell of a column that can be cleaned, as a step.
-fn first_in_column(tiling: &Tiling, column: u8) -> Option<Step>
+fn first_in_column(tiling: &Tiling, required: CellSet, column: u8) -> Option<Step>
+    requires { required ≡ cells_that (λ c. requires_list tiling.now (point_at c ∷ [])) }
     ensures { result ≡ find (λ s. step_applies s tiling.now) (map (λ y. Clean (record { x = column; y = y })) (range_with_len 0 tiling.now.height)) }
 {
     (0..tiling.height())
         .map(|row| Step::Clean(Cell { x: column, y: row }))
-        .find(|step| applies(*step, tiling))
+        .find(|step| cell_applies(*step, tiling, required))
 }
 
 /// The first cell that can be cleaned, as a step.
 fn first_cell(tiling: &Tiling) -> Option<Step>
     ensures { result ≡ find (λ s. step_applies s tiling.now) (map (λ c. Clean c) (cells_in tiling.now.width tiling.now.height)) }
 {
+    let required = required_cells(tiling);
     for column in 0..tiling.width() {
-        if let Some(step) = first_in_column(tiling, column) {
+        if let Some(step) = first_in_column(tiling, required, column) {
             return Some(step);
         }
     }

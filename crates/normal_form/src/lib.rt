@@ -6,9 +6,13 @@ mod form;
 mod known;
 mod law;
 mod lines;
+mod required;
+mod thinned;
 
 pub use form::normalise;
 pub use law::{replays_keep_members, steps_shrink, traces_are_determined};
+pub use required::required_cells;
+pub use thinned::normalise_thinned;
 
 #[cfg(test)]
 mod tests;

@@ -1,6 +1,8 @@
-ghost use Rattle.std.specs.Prelude.{◌≡◌, IfOk, length};
+ghost use Rattle.std.specs.Prelude.{◌≡◌, ◌<◌, IfOk, length};
 
-use crate::{normalise, replays_keep_members, steps_shrink, traces_are_determined};
+use crate::{
+    normalise, normalise_thinned, replays_keep_members, steps_shrink, traces_are_determined,
+};
 use gridded::{Cell, Gridded, GriddedFault};
 use sequences::Sequence;
 use std::alloc::{AllocError, Global};
@@ -144,5 +146,52 @@ fn a_placed_point_leads_back_to_its_tiling(rt: HostRuntime) -> Result<(), Fail> 
     assert!(rt; obstructions.len() == 8 && list.len() == 1);
     let lists = vec![in alloc; Sequence::of(list)]?;
     assert_eq!(rt; answer, Tiling::of(alloc, 3, 2, obstructions, lists)?);
+    Ok(())
+}
+
+/// The tiling of one cell with these obstructions.
+fn in_one_cell(alloc: Global, obstructions: Vec<Gridded>) -> Result<Tiling, Fail>
+    requires { length obstructions.items < 9 }
+{
+    Ok(Tiling::of(alloc, 1, 1, obstructions, Vec::new(alloc))?)
+}
+
+fn rise(alloc: Global) -> Result<Gridded, Fail> {
+    Ok(Gridded::of(alloc, &[0, 1], &[cell(0, 0); 2])?)
+}
+
+fn longer_rise(alloc: Global) -> Result<Gridded, Fail> {
+    Ok(Gridded::of(alloc, &[0, 1, 2], &[cell(0, 0); 3])?)
+}
+
+fn hook(alloc: Global) -> Result<Gridded, Fail> {
+    Ok(Gridded::of(alloc, &[0, 2, 1], &[cell(0, 0); 3])?)
+}
+
+#[test]
+fn a_thinned_tiling_has_the_trace_of_the_whole(rt: HostRuntime) -> Result<(), Fail> {
+    let alloc = rt.alloc();
+    let whole = vec![in alloc; rise(alloc)?, longer_rise(alloc)?, hook(alloc)?]?;
+    let (form, trace) = normalise(alloc, in_one_cell(alloc, whole)?)?;
+    assert_eq!(rt; trace.as_slice(), [Step::Min].as_slice());
+    let least = vec![in alloc; rise(alloc)?]?;
+    let answer = normalise_thinned(alloc, in_one_cell(alloc, least)?, true)?;
+    assert_eq!(rt; answer.1.as_slice(), trace.as_slice());
+    assert_eq!(rt; answer.0, form);
+    let some = vec![in alloc; hook(alloc)?, rise(alloc)?]?;
+    let answer = normalise_thinned(alloc, in_one_cell(alloc, some)?, true)?;
+    assert_eq!(rt; answer.1.as_slice(), trace.as_slice());
+    assert_eq!(rt; answer.0, form);
+    Ok(())
+}
+
+#[test]
+fn void_comes_first_in_a_thinned_tiling(rt: HostRuntime) -> Result<(), Fail> {
+    let alloc = rt.alloc();
+    let empty = vec![in alloc; Gridded::empty()]?;
+    let (form, trace) = normalise_thinned(alloc, in_one_cell(alloc, empty)?, true)?;
+    assert_eq!(rt; trace.as_slice(), [Step::Void].as_slice());
+    let void = vec![in alloc; Gridded::empty()]?;
+    assert_eq!(rt; form, Tiling::of(alloc, 0, 0, void, Vec::new(alloc))?);
     Ok(())
 }

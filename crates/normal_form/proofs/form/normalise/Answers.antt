@@ -1,29 +1,9 @@
-use Rattle.std.proofs.Common.{sym, ◌∙◌}
-use Rattle.normal_form.proofs.Knowing.{known_then}
-use Rattle.normal_form.proofs.Reached.{next_is_smaller, reached_itself, reached_next, reached_end, reached_normal}
-use Rattle.normal_form.proofs.Tracing.{first_applies}
+use Rattle.std.proofs.lemmas.Result.{IfOk-weaker}
+use Rattle.normal_form.proofs.Reached.{reached_itself}
 use Rattle.normal_form.proofs.form.normalise.Goals as goal
 
-pub loop-step-init : goal.loop-step-init
-loop-step-init c = record { reached = rw c.new-trace.ensures.items (reached_itself c.args.tiling); known = tt }
-
-pub follow-requires : goal.follow-requires
-follow-requires c = first_applies c.loop-step.current c.in-Some.step (sym c.first_step.ensures.value ∙ c.in-Some.is)
-
-pub loop-step-smaller : goal.loop-step-smaller
-loop-step-smaller c =
-    next_is_smaller c.loop-step.current c.in_ok-current.current c.in-Some.step c.first_step.ensures.kept (sym c.first_step.ensures.value ∙ c.in-Some.is) c.in_ok-current.ensures.made
-
-pub loop-step-preserved : goal.loop-step-preserved
-loop-step-preserved c =
-    let first = sym c.first_step.ensures.value ∙ c.in-Some.is in
-    record {
-      reached = rw c.in_ok-push.ensures.items (reached_next c.args.tiling c.loop-step.trace.items c.loop-step.current c.in_ok-current.current c.in-Some.step c.loop-step.invariant.reached first c.in_ok-current.ensures.members c.in_ok-current.ensures.made);
-      known = rw (c.known_after-known.ensures, c.in_ok-current.ensures.made) (known_then c.loop-step.current c.in-Some.step c.first_step.ensures.kept first);
-    }
-
-pub returns-clause-traced : goal.returns-clause-traced
-returns-clause-traced c = reached_end c.args.tiling c.loop-step.trace.items c.loop-step.current c.loop-step.invariant.reached (sym c.first_step.ensures.value ∙ c.in_default.is)
-
-pub returns-clause-normal : goal.returns-clause-normal
-returns-clause-normal c = reached_normal c.loop-step.current c.first_step.ensures.kept (sym c.first_step.ensures.value ∙ c.in_default.is)
+pub returns-clause-members : goal.returns-clause-members
+returns-clause-members c =
+    IfOk-weaker c.reduce.result _ _
+    (λ made k. c.replays_keep_members.ensures.members made.1.items c.args.tiling made.0 c.width.ensures.kept (k c.args.tiling (rw c.new.ensures.items (reached_itself c.args.tiling))))
+    c.reduce.ensures.replayed

@@ -1,5 +1,4 @@
-use Rattle.std.proofs.Common.{◌≡◌, ◌<◌, ◌≤◌, ℕ, true, false, ap, sym, ◌∙◌, arith}
-use Rattle.normal_form.proofs.UsedLines.{blank_is_unused, line_below, beyond_is_not_blank, within_is_unused}
+use Rattle.normal_form.proofs.UsedLines.{line_below, beyond_is_not_blank, within_is_unused}
 use Rattle.normal_form.proofs.lines.is_blank.Goals as goal
 
 pub meets-requires : goal.meets-requires

@@ -1,4 +1,4 @@
-use Rattle.std.proofs.Common.{◌≡◌, ◌<◌, ℕ, Bool, true, false, ap, sym, subst, ◌∙◌, arith}
+use Rattle.std.proofs.Common.{◌≡◌, false, ap, sym, ◌∙◌, arith}
 use borrow.Author.Count.{below_more}
 use Rattle.gridded.specs.declared.cell.Cell.{Cell}
 use Rattle.gridded.specs.Axes.{with_line}

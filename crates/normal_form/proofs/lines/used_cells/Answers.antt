@@ -1,10 +1,4 @@
-use Rattle.std.proofs.Common.{◌≡◌, Bool, List, ap, ◌∙◌}
-use Rattle.std.specs.Prelude.{◌||◌}
-use Rattle.std.specs.List.{list_any}
-use Rattle.gridded.specs.Grids.{Point}
-use Rattle.gridded.specs.Places.{touches}
 use Rattle.tiling_core.proofs.GridCells.{in_wider_grid}
-use Rattle.normal_form.specs.Lines.{touches_longer}
 use Rattle.normal_form.proofs.UsedLines.{lists_in_eight, used_is}
 use Rattle.normal_form.proofs.lines.used_cells.Goals as goal
 

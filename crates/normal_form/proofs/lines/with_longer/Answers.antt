@@ -1,7 +1,6 @@
-use Rattle.std.proofs.Common.{◌≡◌, Bool, List, ap, sym, ◌∙◌}
+use Rattle.std.proofs.Common.{List, ap, ◌∙◌}
 use Rattle.std.specs.Prelude.{◌||◌}
 use Rattle.std.specs.List.{list_any}
-use Rattle.gridded.specs.declared.cell.Cell.{Cell}
 use Rattle.gridded.specs.Grids.{Point}
 use Rattle.normal_form.specs.Lines.{touches_longer}
 use Rattle.normal_form.proofs.UsedLines.{grows, whole, none_yet}

@@ -1,7 +1,4 @@
-use Rattle.std.proofs.Common.{◌≡◌, Bool, sym, ap, refl, ◌∙◌, false, arith}
-use Rattle.std.specs.Prelude.{◌||◌, ◌&&◌, not}
-use Rattle.std.specs.List.{list_any}
-use Rattle.gridded.specs.Places.{touches}
+use Rattle.std.proofs.Common.{sym, ◌∙◌}
 use Rattle.normal_form.proofs.UsedLines.{single_adds_none, longer_adds}
 use Rattle.normal_form.proofs.lines.with_one_longer.Goals as goal
 

@@ -1,6 +1,6 @@
 use Rattle.std.proofs.Common.{sym, ◌∙◌}
-use Rattle.insertion.proofs.RequiredCells.{another_number, no_point_listed, point_listed}
-use Rattle.insertion.proofs.required.with_list.Goals as goal
+use Rattle.normal_form.proofs.RequiredCells.{another_number, no_point_listed, point_listed}
+use Rattle.normal_form.proofs.required.with_list.Goals as goal
 
 pub returns-then-patterns-ne1 : goal.returns-then-patterns-ne1
 returns-then-patterns-ne1 c = another_number c.args.set c.args.patterns.now c.requires.is_set c.if-patterns-ne1.true

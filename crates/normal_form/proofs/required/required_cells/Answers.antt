@@ -4,8 +4,8 @@ use Rattle.std.proofs.lemmas.List.{take_all}
 use Rattle.gridded.specs.Grids.{Point}
 use Rattle.gridded.specs.CellSets.{cells_that}
 use Rattle.tiling_core.proofs.GridCells.{is_set_from}
-use Rattle.insertion.proofs.RequiredCells.{is_alone_in, lists_in_wider_grid, one_more_list}
-use Rattle.insertion.proofs.required.required_cells.Goals as goal
+use Rattle.normal_form.proofs.RequiredCells.{is_alone_in, lists_in_wider_grid, one_more_list}
+use Rattle.normal_form.proofs.required.required_cells.Goals as goal
 
 pub with_list-cells-requires-clause-inside : goal.with_list-cells-requires-clause-inside
 with_list-cells-requires-clause-inside c =

@@ -26,7 +26,7 @@ fn with_list(set: CellSet, patterns: &[Gridded]) -> CellSet
 }
 
 /// The cells whose point alone is a requirement list. Takes no memory.
-pub(crate) fn required_cells(tiling: &Tiling) -> CellSet
+pub fn required_cells(tiling: &Tiling) -> CellSet
     ensures { result ≡ cells_that (λ c. requires_list tiling.now (point_at c ∷ [])) }
 {
     let mut cells = CellSet::none();
