@@ -8,6 +8,7 @@
 
 mod domain;
 mod filing;
+mod filing_words;
 mod laws;
 mod record;
 mod shape;

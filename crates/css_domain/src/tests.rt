@@ -78,6 +78,7 @@ fn a_filing_is_its_rules(rt: HostRuntime) {
     let rules = vec![in rt.alloc(); 7u32, 3].expect(&rt, "memory");
     let filing: Filing<Numbers> = Filing::of(rules);
     assert_eq!(rt; filing.as_slice()[1], 3);
+    assert_eq!(rt; filing.words(), 6);
     assert_eq!(rt; filing.into_vec().len(), 2);
 }
 
