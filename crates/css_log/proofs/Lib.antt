@@ -1,0 +1,7 @@
+pub mod Whole
+pub mod Lists
+pub mod OtherSeats
+pub mod ReaderSteps
+pub mod WriterSteps
+pub mod SplitsAndJoins
+pub mod Ends

@@ -1,0 +1,4 @@
+pub mod WholeRecords
+pub mod Agreement
+pub mod Told
+pub mod States

@@ -1,0 +1,4 @@
+pub mod Desks
+pub mod Filings
+pub mod Answers
+pub mod RecordWords
