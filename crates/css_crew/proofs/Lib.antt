@@ -1,3 +1,4 @@
 pub mod Turns
 pub mod Onward
 pub mod FiledPicks
+pub mod Unmoved

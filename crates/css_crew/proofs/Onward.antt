@@ -1,6 +1,6 @@
 -- One more filing leads on, and at the end the ledger is that of one worker.
 use Rattle.std.proofs.Common.{◌≡◌, ℕ, suc, ◌+◌, ◌<◌, ◌≤◌, Bool, true, false, List, [], ◌∷◌, ◌++◌, length, take, length-append, refl, sym, ap, subst, ◌∙◌, inl, inr, ⊎_elim, arith}
-use Rattle.std.specs.Prelude.{flat_map, slice_get, Option, Some, None, sum_by}
+use Rattle.std.specs.Prelude.{flat_map, slice_get, Option, Some, None, IsNone, sum_by}
 use Rattle.std.specs.List.{range_with_len}
 use Rattle.std.proofs.lemmas.List.{map-append}
 use Rattle.std.proofs.lemmas.Option.{slice_get_within}
@@ -22,6 +22,11 @@ use Rattle.css_crew.specs.Ways.{IsOnTheWay, IsNext, FilesNone, Goes, reason_as}
 
 pub both : {b : Bool} → b ≡ false → b ≡ true → ⊥
 both e f = cc
+
+-- there is none
+pub none_from : {X : Type 0} (o : Option X) → ((x : X) → o ≡ Some x → ⊥) → IsNone o
+none_from None never = refl
+none_from (Some x) never = absurd (never x refl)
 
 pair_of : {X Y : Type 0} (x y : X × Y) → x ≡ y → (x.0 ≡ y.0) × (x.1 ≡ y.1)
 pair_of x y e = (ap (λ p. p.0) e, ap (λ p. p.1) e)

@@ -1,14 +1,15 @@
-ghost use Rattle.std.specs.Prelude.{◌≡◌, ◌≤◌, [], length, IfOk, IfSome};
+ghost use Rattle.std.specs.Prelude.{◌≡◌, ◌≤◌, [], length, take, IfOk, IfSome, IsNone, IsTrue};
 ghost use Rattle.std.specs.List.{range_with_len};
 ghost use Rattle.css_domain.specs.Ledgers.{classes, records, done};
 ghost use Rattle.css_domain.specs.LedgerFacts.{IsLedger};
-ghost use Rattle.css_domain.specs.Reasons.{Alone, EndsFor};
+ghost use Rattle.css_domain.specs.Reasons.{Alone, EndsFor, RootStands};
 ghost use Rattle.css_prune.specs.Pruning.{IsPruned};
 ghost use Rattle.css_domain.specs.FiledSpecs.{IsFiledSpec};
 ghost use Rattle.css_crew.specs.Ways.{Goes, GoesWith, reason_as};
 
 use crate::expander::Expander;
 use crate::reason::Reason;
+use crate::waiting::all_wait;
 use css_domain::Domain;
 use css_ledger::{Claimed, Ledger};
 use css_prune::{Pruned, Spec, extract, prune};
@@ -24,6 +25,27 @@ fn standing<D: Domain>(alloc: Global, ledger: &Ledger<D>) -> Result<Pruned, Allo
     prune(alloc, records.as_slice(), classes)
 }
 
+/// What stands, where the root does. It is looked for only where it isn't known that the root doesn't stand.
+fn found<D: Domain>(
+    alloc: Global,
+    ledger: &Ledger<D>,
+    waits: bool,
+) -> Result<Option<Pruned>, AllocError>
+    requires known { IsTrue waits → RootStands D.meaning ledger.now → ⊥ }
+    ensures ledger { IsLedger D.meaning ledger.now }
+    ensures pruned { IfOk result (λ found. IfSome found (λ pruned. IsPruned (records D.meaning ledger.now) (length (classes D.meaning ledger.now)) pruned)) }
+    ensures stands { IfOk result (λ found. IfSome found (λ _. RootStands D.meaning ledger.now)) }
+    ensures falls { IfOk result (λ found. IsNone found → RootStands D.meaning ledger.now → ⊥) }
+{
+    let _ = ledger.counts();
+    if waits {
+        return Ok(None);
+    }
+    let pruned = standing(alloc, ledger)?;
+    let stands = pruned.keep.as_slice()[0];
+    if stands { Ok(Some(pruned)) } else { Ok(None) }
+}
+
 /// Files the least fresh class, where none is out. Answers why none is filed, where none is; then the ledger is
 /// as before. The refusal is want of memory.
 fn file_next<D: Domain, E: Expander<D>>(
@@ -34,7 +56,8 @@ fn file_next<D: Domain, E: Expander<D>>(
     requires out { ledger.old.out ≡ [] }
     requires turn { done ledger.old ≡ range_with_len 0 (length ledger.old.journal) }
     requires rulebook { ledger.old.rulebook ≡ E.rulebook_of expander.now }
-    ensures { IfOk result (λ end. Goes D.meaning ledger.old ledger.new end) }
+    ensures goes { IfOk result (λ end. Goes D.meaning ledger.old ledger.new end) }
+    ensures records { IfOk result (λ end. IsNone end → take (length ledger.old.rules) (records D.meaning ledger.new) ≡ records D.meaning ledger.old) }
 {
     match ledger.claim() {
         Claimed::Work(pack) => {
@@ -62,8 +85,9 @@ struct Searched<D: Domain> {
     reason: Reason,
 }
 
-/// Fills a ledger class by class, and prunes it after each filing, until the root stands, all classes are done
-/// or the budget is spent. The refusal is want of memory.
+/// Fills a ledger class by class until the root stands, all classes are done or the budget is spent. It prunes after
+/// each filing but those whose rules all wait for a class that is not expanded, after which nothing stands that did
+/// not. The refusal is want of memory.
 fn search<D: Domain, E: Expander<D>>(
     alloc: Global,
     root: D::Class,
@@ -78,23 +102,25 @@ fn search<D: Domain, E: Expander<D>>(
     ensures pruned { IfOk result (λ searched. IsPruned (records D.meaning searched.ledger) (length (classes D.meaning searched.ledger)) searched.pruned) }
 {
     let mut ledger = Ledger::new(alloc, root, budget, expander.rulebook())?;
+    let mut waits = false;
     loop {
-        let pruned = standing(alloc, &ledger)?;
-        let stands = pruned.keep.as_slice()[0];
-        if stands {
+        if let Some(pruned) = found(alloc, &ledger, waits)? {
             return Ok(Searched {
                 ledger,
                 pruned,
                 reason: Reason::Found,
             });
         }
+        let rules = ledger.counts().rules;
         if let Some(reason) = file_next(alloc, &mut ledger, expander)? {
+            let pruned = standing(alloc, &ledger)?;
             return Ok(Searched {
                 ledger,
                 pruned,
                 reason,
             });
         }
+        waits = all_wait(&ledger, rules);
     }
 }
 

@@ -7,6 +7,7 @@ mod laws;
 mod reason;
 #[cfg(test)]
 mod tests;
+mod waiting;
 
 pub use alone::{Solved, solve_alone};
 pub use expander::Expander;

@@ -1,7 +1,7 @@
 -- The least fresh class is the next.
-use Rattle.std.proofs.Common.{◌≡◌, ℕ, sym, ◌∙◌, ap, subst, arith, length, Some}
+use Rattle.std.proofs.Common.{◌≡◌, ℕ, sym, ◌∙◌, ap, subst, arith, length, take, Some}
 use Rattle.std.specs.Prelude.{slice_get}
-use Rattle.css_domain.specs.Ledgers.{Books, with_work, with_filing, classes}
+use Rattle.css_domain.specs.Ledgers.{Books, with_work, with_filing, classes, records}
 use Rattle.css_domain.specs.LedgerFacts.{IsFilingOf}
 use Rattle.css_crew.specs.Ways.{IsExpansion}
 use Rattle.css_crew.proofs.Turns.{claimed_work, claimed_idle, claimed_spent, claimed_finished, claimed_filed, claimed_out}
@@ -30,8 +30,8 @@ file-requires-clause-filing g c = λ κs lives d at.
     subst (λ (x : g.row.D-Class.Denot). IsFilingOf g.D.Domain.meaning c.claim.new.self.rulebook x c.in-Ok.filing) same
     (subst (λ (r : ℕ). IsFilingOf g.D.Domain.meaning r c.class.result.now c.in-Ok.filing) book c.in-Ok.ensures.filing)
 
-pub returns-in_default-file : goal.returns-in_default-file
-returns-in_default-file g c =
+pub returns-in_default-file-clause-goes : goal.returns-in_default-file-clause-goes
+returns-in_default-file-clause-goes g c =
     let a = c.in-Work.ensures.answer in
     let e = c.in-Work.ensures.after ∙ ap (with_work c.args.ledger.now) (sym a) in
     let w = claimed_work g.D.Domain.meaning c.args.ledger.now c.requires.out c.requires.turn c.in-Work.pack.number a in
@@ -45,11 +45,16 @@ returns-in_default-file g c =
       expansion = subst (λ (r : ℕ). IsExpansion g.D.Domain.meaning r c.class.result.now c.in-Ok.filing) (sym c.requires.rulebook) c.in-Ok.ensures;
     }
 
-pub returns-in-Spent : goal.returns-in-Spent
-returns-in-Spent g c = (c.in-Spent.ensures.after ∙ ap (with_work c.args.ledger.now) (sym c.in-Spent.ensures.answer), claimed_spent g.D.Domain.meaning c.args.ledger.now c.requires.out c.requires.turn c.in-Spent.ensures.answer)
+pub returns-in_default-file-clause-records : goal.returns-in_default-file-clause-records
+returns-in_default-file-clause-records g c = λ _.
+    let e = c.in-Work.ensures.after ∙ ap (with_work c.args.ledger.now) (sym c.in-Work.ensures.answer) in
+    subst (λ (b : Books g.row.D-Class.Denot g.row.D-Rule.Denot). take (length b.rules) (records g.D.Domain.meaning c.file.new.self) ≡ records g.D.Domain.meaning b) e c.in_default-file.ensures.old_records
 
-pub returns-in-Idle : goal.returns-in-Idle
-returns-in-Idle g c = (c.in-Idle.ensures.after ∙ ap (with_work c.args.ledger.now) (sym c.in-Idle.ensures.answer), claimed_idle g.D.Domain.meaning c.args.ledger.now c.requires.out c.requires.turn c.in-Idle.ensures.answer)
+pub returns-in-Spent-clause-goes : goal.returns-in-Spent-clause-goes
+returns-in-Spent-clause-goes g c = (c.in-Spent.ensures.after ∙ ap (with_work c.args.ledger.now) (sym c.in-Spent.ensures.answer), claimed_spent g.D.Domain.meaning c.args.ledger.now c.requires.out c.requires.turn c.in-Spent.ensures.answer)
 
-pub returns-in-Finished : goal.returns-in-Finished
-returns-in-Finished g c = (c.in-Finished.ensures.after ∙ ap (with_work c.args.ledger.now) (sym c.in-Finished.ensures.answer), claimed_finished g.D.Domain.meaning c.args.ledger.now c.requires.out c.requires.turn c.in-Finished.ensures.answer)
+pub returns-in-Idle-clause-goes : goal.returns-in-Idle-clause-goes
+returns-in-Idle-clause-goes g c = (c.in-Idle.ensures.after ∙ ap (with_work c.args.ledger.now) (sym c.in-Idle.ensures.answer), claimed_idle g.D.Domain.meaning c.args.ledger.now c.requires.out c.requires.turn c.in-Idle.ensures.answer)
+
+pub returns-in-Finished-clause-goes : goal.returns-in-Finished-clause-goes
+returns-in-Finished-clause-goes g c = (c.in-Finished.ensures.after ∙ ap (with_work c.args.ledger.now) (sym c.in-Finished.ensures.answer), claimed_finished g.D.Domain.meaning c.args.ledger.now c.requires.out c.requires.turn c.in-Finished.ensures.answer)

@@ -1,54 +1,51 @@
 -- Filing by filing, as far as the ledger stops.
-use Rattle.std.proofs.Common.{◌≡◌, Bool, true, false, List, inl, sym, ◌∙◌, ap, subst, arith, length}
-use Rattle.std.specs.Prelude.{slice_index_or}
-use Rattle.css_domain.specs.Ledgers.{Books, classes, records, new_books}
-use Rattle.css_domain.specs.Reasons.{Alone, EndsFor}
-use Rattle.css_prune.specs.Pruning.{IsPruned}
+use Rattle.std.proofs.Common.{◌≡◌, ℕ, List, inl, sym, ◌∙◌, ap, subst, length, take}
+use Rattle.std.specs.Prelude.{Option, IfSome}
+use Rattle.css_domain.specs.declared.record.Record.{Record}
+use Rattle.css_domain.specs.Ledgers.{Books, Counts, records, new_books}
+use Rattle.css_domain.specs.Reasons.{Alone, EndsFor, RootStands}
+use Rattle.css_domain.specs.Standing.{Stands}
+use Rattle.css_prune.specs.declared.pruned.Pruned.{Pruned}
 use Rattle.css_crew.specs.Ways.{IsOnTheWay, Goes, reason_as}
-use Rattle.css_crew.proofs.Onward.{begun, alone, onward, some_class, ends_not, stops_not_found, next_if_none, both}
+use Rattle.css_crew.proofs.Onward.{begun, alone, onward, ends_not, stops_not_found, next_if_none, none_from}
+use Rattle.css_crew.proofs.Unmoved.{root_stood}
 use Rattle.css_crew.proofs.alone.search.Goals as goal
 
 pub loop-ledger-init : goal.loop-ledger-init
 loop-ledger-init g c =
     let e = c.in_ok-ledger.ensures ∙ ap (new_books c.args.root c.args.budget) c.rulebook.ensures in
-    subst (IsOnTheWay g.D.Domain.meaning c.args.root c.args.budget (g.E.Expander.rulebook_of c.args.expander.now)) (sym e) (begun g.D.Domain.meaning c.args.root c.args.budget (g.E.Expander.rulebook_of c.args.expander.now))
-
-pub bounds-as_slice-0 : goal.bounds-as_slice-0
-bounds-as_slice-0 g c =
-    let p = c.in_ok-pruned.ensures.pruned in
-    let some = some_class g.D.Domain.meaning c.loop-ledger.ledger in
-    omega (arith, some, p.as_many.keep, ap length c.as_slice.ensures)
-
-pub returns-then-stands-clause-reason : goal.returns-then-stands-clause-reason
-returns-then-stands-clause-reason g c = (c.in_ok-pruned.ensures.pruned.standing 0).0 (subst (λ (keep : List Bool). slice_index_or keep 0 false ≡ true) c.as_slice.ensures c.if-stands.true)
-
-pub returns-then-stands-clause-alone : goal.returns-then-stands-clause-alone
-returns-then-stands-clause-alone g c =
-    alone g.D.Domain.meaning c.args.root c.args.budget (g.E.Expander.rulebook_of c.args.expander.now) c.loop-ledger.ledger c.in_ok-pruned.ensures.ledger c.loop-ledger.invariant (inl (returns-then-stands-clause-reason g c))
+    (subst (IsOnTheWay g.D.Domain.meaning c.args.root c.args.budget (g.E.Expander.rulebook_of c.args.expander.now)) (sym e) (begun g.D.Domain.meaning c.args.root c.args.budget (g.E.Expander.rulebook_of c.args.expander.now)), λ w. absurd cc)
 
 pub returns-in-Some-clause-alone : goal.returns-in-Some-clause-alone
 returns-in-Some-clause-alone g c =
+    let stands = subst (λ (o : Option Pruned). IfSome o (λ _. RootStands g.D.Domain.meaning c.loop-ledger.ledger)) c.in-Some.is c.in_ok-pruned.ensures.stands in
+    alone g.D.Domain.meaning c.args.root c.args.budget (g.E.Expander.rulebook_of c.args.expander.now) c.loop-ledger.ledger c.in_ok-pruned.ensures.ledger c.loop-ledger.invariant.0 (inl stands)
+
+pub returns-in-Some-2-clause-alone : goal.returns-in-Some-2-clause-alone
+returns-in-Some-2-clause-alone g c =
     let book = g.E.Expander.rulebook_of c.args.expander.now in
-    let ends = subst (Goes g.D.Domain.meaning c.loop-ledger.ledger c.file_next.new.ledger) c.in-Some.is c.in_ok-reason.ensures in
+    let ends = subst (Goes g.D.Domain.meaning c.loop-ledger.ledger c.file_next.new.ledger) c.in-Some-2.is c.in_ok-reason.ensures.goes in
     subst (Alone g.D.Domain.meaning c.args.root c.args.budget book) (sym ends.0)
-    (alone g.D.Domain.meaning c.args.root c.args.budget book c.loop-ledger.ledger c.in_ok-pruned.ensures.ledger c.loop-ledger.invariant (stops_not_found g.D.Domain.meaning c.loop-ledger.ledger c.in-Some.reason ends.1))
+    (alone g.D.Domain.meaning c.args.root c.args.budget book c.loop-ledger.ledger c.in_ok-pruned.ensures.ledger c.loop-ledger.invariant.0 (stops_not_found g.D.Domain.meaning c.loop-ledger.ledger c.in-Some-2.reason ends.1))
 
-pub returns-in-Some-clause-reason : goal.returns-in-Some-clause-reason
-returns-in-Some-clause-reason g c =
-    let ends = subst (Goes g.D.Domain.meaning c.loop-ledger.ledger c.file_next.new.ledger) c.in-Some.is c.in_ok-reason.ensures in
-    let dropped : slice_index_or c.in_ok-pruned.pruned.keep 0 false ≡ false = subst (λ (keep : List Bool). slice_index_or keep 0 false ≡ false) c.as_slice.ensures c.if-stands.false in
-    subst (λ (b : Books g.row.D-Class.Denot g.row.D-Rule.Denot). EndsFor g.D.Domain.meaning b (reason_as c.in-Some.reason)) (sym ends.0)
-    (ends_not g.D.Domain.meaning c.loop-ledger.ledger c.in-Some.reason (λ s. both dropped ((c.in_ok-pruned.ensures.pruned.standing 0).1 s)) ends.1)
-
-pub returns-in-Some-clause-pruned : goal.returns-in-Some-clause-pruned
-returns-in-Some-clause-pruned g c =
-    let ends = subst (Goes g.D.Domain.meaning c.loop-ledger.ledger c.file_next.new.ledger) c.in-Some.is c.in_ok-reason.ensures in
-    subst (λ (b : Books g.row.D-Class.Denot g.row.D-Rule.Denot). IsPruned (records g.D.Domain.meaning b) (length (classes g.D.Domain.meaning b)) c.in_ok-pruned.pruned) (sym ends.0) c.in_ok-pruned.ensures.pruned
+pub returns-in-Some-2-clause-reason : goal.returns-in-Some-2-clause-reason
+returns-in-Some-2-clause-reason g c =
+    let ends = subst (Goes g.D.Domain.meaning c.loop-ledger.ledger c.file_next.new.ledger) c.in-Some-2.is c.in_ok-reason.ensures.goes in
+    subst (λ (b : Books g.row.D-Class.Denot g.row.D-Rule.Denot). EndsFor g.D.Domain.meaning b (reason_as c.in-Some-2.reason)) (sym ends.0)
+    (ends_not g.D.Domain.meaning c.loop-ledger.ledger c.in-Some-2.reason (c.in_ok-pruned.ensures.falls (none_from c.in_ok-pruned.field-0 c.in_default.not-Some)) ends.1)
 
 pub loop-ledger-preserved : goal.loop-ledger-preserved
 loop-ledger-preserved g c =
+    let D = g.D.Domain.meaning in
     let book = g.E.Expander.rulebook_of c.args.expander.now in
-    let dropped : slice_index_or c.in_ok-pruned.pruned.keep 0 false ≡ false = subst (λ (keep : List Bool). slice_index_or keep 0 false ≡ false) c.as_slice.ensures c.if-stands.false in
-    onward g.D.Domain.meaning c.args.root c.args.budget book c.loop-ledger.ledger c.in_ok-pruned.ensures.ledger c.loop-ledger.invariant
-    (λ s. both dropped ((c.in_ok-pruned.ensures.pruned.standing 0).1 s))
-    c.file_next.new.ledger (next_if_none g.D.Domain.meaning c.loop-ledger.ledger c.file_next.new.ledger c.in_ok-reason.field-0 c.in_default.not-Some c.in_ok-reason.ensures)
+    let laws = g.met.D.Domain g.world.𝓛 g.world.𝓜 g.world.𝓡 ((λ s x. x), (λ x. x), (λ x. x), λ x. x) in
+    let falls = c.in_ok-pruned.ensures.falls (none_from c.in_ok-pruned.field-0 c.in_default.not-Some) in
+    let way = onward D c.args.root c.args.budget book c.loop-ledger.ledger c.in_ok-pruned.ensures.ledger c.loop-ledger.invariant.0 falls c.file_next.new.ledger
+    (next_if_none D c.loop-ledger.ledger c.file_next.new.ledger c.in_ok-reason.field-0 c.in_default-2.not-Some c.in_ok-reason.ensures.goes) in
+    let many : c.counts-rules.result.rules ≡ length c.loop-ledger.ledger.rules = ap (λ (n : Counts). n.rules) c.counts-rules.ensures.answer in (
+      way,
+      λ w s.
+          falls
+          (subst (λ (rs : List Record). Stands rs 0) (ap (λ (n : ℕ). take n (records D c.file_next.new.ledger)) many ∙ c.in_ok-reason.ensures.records (none_from c.in_ok-reason.field-0 c.in_default-2.not-Some))
+          (root_stood D (λ x. laws.same x x ∙ g.met.D.Class.Eq.laws.refl x) (λ a b h. laws.exact a b (sym (laws.same a b) ∙ h)) c.file_next.new.ledger c.all_wait-waits.ensures.ledger way.in_turn c.counts-rules.result.rules (c.all_wait-waits.ensures.waiting w) s)),
+    )
