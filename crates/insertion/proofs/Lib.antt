@@ -1,2 +1,1 @@
-pub mod RequiredCells
 pub mod Listed

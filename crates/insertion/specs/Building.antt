@@ -5,7 +5,7 @@ use Rattle.rule_kinds.specs.declared.kind.Kind.{Kind}
 use Rattle.rule_kinds.specs.declared.kind.Kind.TheVariants as kind
 use Rattle.rule_kinds.specs.declared.fault.RawFault.{RawFault}
 use Rattle.rule_kinds.specs.declared.fault.RawFault.TheVariants as raw
-use Rattle.rule_kinds.specs.Built.{applies_now}
+use Rattle.rule_kinds.specs.Conditions.{applies}
 
 abbrev pub is_insertion : Kind → Bool
 is_insertion (kind.Insert r) = true
@@ -13,5 +13,5 @@ is_insertion _ = false
 
 -- another kind, or an insertion whose condition fails; want of memory has no cause here
 abbrev pub IsRefused : Tiles → Kind → RawFault → Type 0
-IsRefused t k raw.NotApplicable = (is_insertion k && applies_now t k) ≡ false
+IsRefused t k raw.NotApplicable = (is_insertion k && applies t k) ≡ false
 IsRefused t k raw.Memory = Unit {0}

@@ -1,14 +1,23 @@
-ghost use Rattle.std.specs.Prelude.{◌≡◌, ◌&&◌, true, false, [], ◌∷◌, IfOk, IfErr, OnOk};
+ghost use Rattle.std.specs.Prelude.{◌≡◌, ◌&&◌, not, true, false, [], ◌∷◌, IfOk, IfErr, OnOk};
+ghost use Rattle.lists.specs.Members.{is_nil};
 ghost use Rattle.tiling_core.specs.Patterns.{also};
-ghost use Rattle.rule_kinds.specs.Built.{applies_now};
+ghost use Rattle.rule_kinds.specs.Conditions.{applies};
 ghost use Rattle.rule_kinds.specs.Children.{raw_children};
 ghost use Rattle.rule_kinds.specs.Lines.{in_grid};
 ghost use Rattle.insertion.specs.Building.{is_insertion, IsRefused};
 
 use gridded::Gridded;
-use rule_kinds::{Kind, RawFault, also, applies, requiring};
+use rule_kinds::{Kind, RawFault, also, requiring};
 use std::alloc::{AllocError, Global};
 use tiling_core::Tiling;
+
+/// Whether a pattern can be inserted: it has a point, and its cells lie in the grid (docs/RULES.md, "Kinds of
+/// rules"). Takes no memory.
+pub fn can_insert(tiling: &Tiling, pattern: &Gridded) -> bool
+    ensures { result ≡ (not (is_nil pattern.now) && in_grid tiling.now pattern.now) }
+{
+    pattern.len() != 0 && pattern.fits_grid(tiling.width(), tiling.height())
+}
 
 /// The tiling without a pattern that lies in its grid, and that with it. The refusal is want of memory.
 #[tactic(auto, using(tiling_core::proofs::Joined::single))]
@@ -29,14 +38,14 @@ pub fn inserted(alloc: Global, tiling: &Tiling, pattern: Gridded) -> Result<Vec<
 #[tactic(auto, using(rule_kinds::proofs::Applying::applying), unfolding(rule_kinds::specs::Children::raw_children, rule_kinds::specs::Conditions::applies))]
 pub fn build(alloc: Global, tiling: &Tiling, kind: &Kind) -> Result<Vec<Tiling>, RawFault>
     ensures made { IfOk result (λ children. children.items ≡ raw_children tiling.now kind.now) }
-    ensures applicable { OnOk result ((is_insertion kind.now && applies_now tiling.now kind.now) ≡ true) }
+    ensures applicable { OnOk result ((is_insertion kind.now && applies tiling.now kind.now) ≡ true) }
     ensures refused { IfErr result (λ fault. IsRefused tiling.now kind.now fault) }
     ensures others { is_insertion kind.now ≡ false → result ≡ Err RawFault.NotApplicable }
 {
     let Kind::Insert(pattern) = kind else {
         return Err(RawFault::NotApplicable);
     };
-    if !applies(alloc, tiling, kind)? {
+    if !can_insert(tiling, pattern) {
         return Err(RawFault::NotApplicable);
     }
     Ok(inserted(alloc, tiling, *pattern)?)

@@ -3,9 +3,8 @@
 
 mod children;
 mod listing;
-mod required;
 #[cfg(test)]
 mod tests;
 
-pub use children::{build, inserted};
+pub use children::{build, can_insert, inserted};
 pub use listing::arguments;

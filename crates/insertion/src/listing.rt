@@ -2,8 +2,8 @@ ghost use Rattle.std.specs.Prelude.{◌≡◌, ◌<◌, ◌≤◌, ◌++◌, IfO
 ghost use Rattle.rule_kinds.specs.Choices.{insertions};
 ghost use Rattle.insertion.specs.Open.{insertion_at, insertions_in};
 
-use crate::required::required_cells;
 use gridded::{Cell, CellSet, Gridded};
+use normal_form::required_cells;
 use rule_kinds::Kind;
 use std::alloc::{AllocError, Global};
 use tiling_core::{Tiling, active};

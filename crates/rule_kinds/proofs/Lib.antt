@@ -5,6 +5,5 @@ pub mod ChildRows
 pub mod LawRows
 pub mod PlaceRows
 pub mod TriedRows
-pub mod Applied
 pub mod Applying
 pub mod Closures

@@ -7,7 +7,7 @@ use Rattle.rule_kinds.specs.declared.kind.Kind.{Kind}
 use Rattle.rule_kinds.specs.declared.kind.Kind.TheVariants as kind
 use Rattle.rule_kinds.specs.Kinds.{IsKept}
 use Rattle.rule_kinds.specs.Children.{raw_children}
-use Rattle.rule_kinds.specs.Built.{applies_now}
+use Rattle.rule_kinds.specs.Conditions.{applies}
 use Rattle.rule_kinds.specs.Carry.{carry, back}
 
 -- the image of a member: the number of a child, and a member of that child
@@ -31,4 +31,4 @@ has_one_image _ = true
 
 -- by each kind that applies and has one image of each member, the members are carried
 abbrev pub MembersAreCarried : Type 0
-MembersAreCarried = (t : Tiles) → IsTiling t → (k : Kind) → IsKept k → applies_now t k ≡ true → has_one_image k ≡ true → IsCarriedOneToOne t k
+MembersAreCarried = (t : Tiles) → IsTiling t → (k : Kind) → IsKept k → applies t k ≡ true → has_one_image k ≡ true → IsCarriedOneToOne t k

@@ -4,7 +4,7 @@ pub mod Kinds
 pub mod Rules
 pub mod Children
 pub mod Conditions
-pub mod Built
+pub mod Refused
 pub mod Replayed
 pub mod Follows
 pub mod Carry

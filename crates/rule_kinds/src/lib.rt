@@ -2,15 +2,12 @@
 //! on a tiling (docs/RULES.md, "Kinds of rules").
 #![tactic(auto)]
 
-mod condition;
 mod fault;
 mod further;
-mod inferral;
 mod kind;
 mod pointed;
 mod reading;
 
-pub use condition::applies;
 pub use fault::RawFault;
 pub use further::{also, requiring};
 pub use kind::{Direction, Kind};
