@@ -1,0 +1,11 @@
+pub mod Inside
+pub mod Lined
+pub mod Counted
+pub mod Beside
+pub mod Lifted
+pub mod OneSort
+pub mod ChildParts
+pub mod Allowed
+pub mod Tried
+pub mod Leaving
+pub mod LeftOut
