@@ -1,0 +1,4 @@
+pub mod OnLines
+pub mod Rooms
+pub mod Building
+pub mod LeastCuts
