@@ -13,7 +13,7 @@ use Rattle.rule_kinds.specs.Replayed.{AreReplays}
 use Rattle.rule_kinds.specs.Rules.{TilingRule}
 use Rattle.rule_kinds.specs.Kinds.{IsKept}
 use Rattle.rule_kinds.specs.Children.{raw_children}
-use Rattle.rule_kinds.specs.Built.{applies_now}
+use Rattle.rule_kinds.specs.Conditions.{applies}
 use Rattle.rule_kinds.specs.Follows.{Follows}
 
 -- a step is refused, so the trace leads nowhere
@@ -80,7 +80,7 @@ every_one_leads raw traces children e f h = (λ i. all_lead raw traces children 
 is_never : (r : TilingRule) → (Follows r → ⊥) → IsTrue false ↔ Follows r
 is_never r f = (λ e. absurd cc, λ k. absurd (f k))
 
-pub not_applicable : (r : TilingRule) → applies_now r.parent r.kind ≡ false → IsTrue false ↔ Follows r
+pub not_applicable : (r : TilingRule) → applies r.parent r.kind ≡ false → IsTrue false ↔ Follows r
 not_applicable r e = is_never r (λ k. let c = k.condition in absurd cc)
 
 pub other_traces : (r : TilingRule) → ¬ (length r.traces ≡ length (raw_children r.parent r.kind)) → IsTrue false ↔ Follows r
@@ -94,7 +94,7 @@ as_many_children r k =
 pub other_children : (r : TilingRule) → ¬ (length r.children ≡ length (raw_children r.parent r.kind)) → IsTrue false ↔ Follows r
 other_children r f = is_never r (λ k. f (as_many_children r k))
 
-pub decided : (r : TilingRule) (raw : List Tiles) (b : Bool) → raw ≡ raw_children r.parent r.kind → applies_now r.parent r.kind ≡ true → length r.traces ≡ length raw
+pub decided : (r : TilingRule) (raw : List Tiles) (b : Bool) → raw ≡ raw_children r.parent r.kind → applies r.parent r.kind ≡ true → length r.traces ≡ length raw
     → IsTiling r.parent → IsKept r.kind → All (λ t. IsTiling t) raw → (IsTrue b ↔ AreReplays raw r.traces r.children) → IsTrue b ↔ Follows r
 decided r raw b same applicable many parent kept tilings found =
     (λ e. record { made = record { parent = parent; kind = kept; raw = rw (sym same) tilings }; condition = applicable; as_many = many ∙ ap (λ ts. length ts) same; replayed = rw (sym same) (found.0 e) }, λ k. found.1 (rw same k.replayed))

@@ -4,7 +4,7 @@ pub use Rattle.rule_kinds.specs.Kinds
 pub use Rattle.rule_kinds.specs.Rules
 pub use Rattle.rule_kinds.specs.Children
 pub use Rattle.rule_kinds.specs.Conditions
-pub use Rattle.rule_kinds.specs.Built
+pub use Rattle.rule_kinds.specs.Refused
 pub use Rattle.rule_kinds.specs.Replayed
 pub use Rattle.rule_kinds.specs.Follows
 pub use Rattle.rule_kinds.specs.Carry

@@ -1,10 +1,13 @@
 ghost use Rattle.rule_kinds.specs.Carried.{MembersAreCarried};
 ghost use Rattle.rule_kinds.specs.Counting.{RulesCount};
 
+use cut_law::cuts_rename;
 use emptiness::members_within_weight;
+use factoring_law::factor_rules_count;
 use inferral_law::{inferrals_carry_members, voids_carry_members};
 use insertion_law::insertions_carry_members;
 use normal_form::replays_keep_members;
+use placement_law::placements_carry_members;
 use tiling_core::{counts_add_up, single_tilings};
 
 /// Where a rule follows, the number of its parent's members of each length is what its shape makes of the
@@ -16,6 +19,7 @@ pub fn rules_count()
     counts_add_up();
     members_within_weight();
     replays_keep_members();
+    factor_rules_count();
     members_are_carried();
 }
 
@@ -28,4 +32,6 @@ pub fn members_are_carried()
     insertions_carry_members();
     inferrals_carry_members();
     voids_carry_members();
+    placements_carry_members();
+    cuts_rename();
 }

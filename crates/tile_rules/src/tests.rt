@@ -79,12 +79,22 @@ fn a_point_is_inserted_into_the_root(rt: HostRuntime) -> Result<(), Fail> {
 }
 
 #[test]
+fn a_point_is_placed_in_the_root(rt: HostRuntime) -> Result<(), Fail> {
+    let alloc = rt.alloc();
+    let root = without_pairs(alloc, Vec::new(alloc))?;
+    let children = raw_children(alloc, &root, &placing(alloc, point(alloc)?)?)?;
+    assert_eq!(rt; children.len(), 2);
+    assert_eq!(rt; children[0], without_points(alloc)?);
+    assert_eq!(rt; children[1].width(), 3);
+    Ok(())
+}
+
+#[test]
 fn kinds_that_do_not_apply_to_the_root(rt: HostRuntime) -> Result<(), Fail> {
     let alloc = rt.alloc();
     let root = without_pairs(alloc, Vec::new(alloc))?;
     let far = Kind::Insert(Gridded::of(alloc, &[0], &[FAR])?);
-    let placed = placing(alloc, point(alloc)?)?;
-    let kinds = vec![in alloc; Kind::Unit, Kind::Point, Kind::Void, far, placed]?;
+    let kinds = vec![in alloc; Kind::Unit, Kind::Point, Kind::Void, far]?;
     for kind in &kinds {
         assert_eq!(rt;
             raw_children(alloc, &root, kind),

@@ -15,17 +15,17 @@ use Rattle.steps.specs.Traces.{replay}
 use Rattle.normal_form.specs.TraceLaws.{ReplaysKeepMembers}
 use Rattle.emptiness.specs.Emptiness.{MembersWithinWeight}
 use Rattle.rule_kinds.specs.Rules.{TilingRule}
+use Rattle.gridded.specs.declared.cell.Cell.{Cell}
+use Rattle.factoring_law.specs.FactorLaw.{IsFactorRule, FactorRulesCount}
 use Rattle.rule_kinds.specs.declared.kind.Kind.{Kind}
 use Rattle.rule_kinds.specs.declared.kind.Kind.TheVariants as kind
 use Rattle.rule_kinds.specs.Children.{raw_children}
 use Rattle.rule_kinds.specs.Conditions as D
 use Rattle.rule_kinds.specs.Conditions.{applies}
 use Rattle.emptiness.specs.Inferable.{has_no_member}
-use Rattle.rule_kinds.specs.Built.{is_built}
 use Rattle.css_domain.specs.declared.Shape.TheVariants.{Union}
 use Rattle.rule_kinds.specs.Kinds.{shape_of}
 use Rattle.rule_kinds.specs.Carried.{MembersAreCarried, has_one_image, numbered_image, from_image}
-use Rattle.rule_kinds.proofs.Applied.{applying, never_applying}
 use Rattle.rule_kinds.specs.Counting.{CountsCombine, RulesCount}
 use Rattle.rule_kinds.specs.Follows.{Follows}
 use Rattle.emptiness.proofs.NoMembers.{none_of_any_length}
@@ -55,15 +55,15 @@ children_counts keeps r f n = replayed_counts keeps (raw_children r.parent r.kin
 
 unit_counts : UnitHasOneMember → (r : TilingRule) → Follows r → r.kind ≡ kind.Unit → CountsCombine r
 unfolding D.applies
-unit_counts one r f e n = let same : r.parent ≡ unit_tiling = (tiles_eq_decides r.parent unit_tiling).0 (rw e at (applying r.parent r.kind f.condition)) in rw (same, e) (one n)
+unit_counts one r f e n = let same : r.parent ≡ unit_tiling = (tiles_eq_decides r.parent unit_tiling).0 (rw e at f.condition) in rw (same, e) (one n)
 
 point_counts : PointHasOneMember → (r : TilingRule) → Follows r → r.kind ≡ kind.Point → CountsCombine r
 unfolding D.applies
-point_counts one r f e n = let same : r.parent ≡ point_tiling = (tiles_eq_decides r.parent point_tiling).0 (rw e at (applying r.parent r.kind f.condition)) in rw (same, e) (one n)
+point_counts one r f e n = let same : r.parent ≡ point_tiling = (tiles_eq_decides r.parent point_tiling).0 (rw e at f.condition) in rw (same, e) (one n)
 
 void_counts : MembersWithinWeight → (r : TilingRule) → Follows r → r.kind ≡ kind.Void → CountsCombine r
 unfolding D.applies
-void_counts within r f e n = rw e (none_of_any_length within r.parent (and_parts _ (has_no_member r.parent) (rw e at (applying r.parent r.kind f.condition))).1 n)
+void_counts within r f e n = rw e (none_of_any_length within r.parent (and_parts _ (has_no_member r.parent) (rw e at f.condition)).1 n)
 
 -- where each member has one image, the raw children have as many members together
 union_counts : CountsAddUp → MembersAreCarried → ReplaysKeepMembers → (r : TilingRule) → Follows r → has_one_image r.kind ≡ true → shape_of r.kind ≡ Union → CountsCombine r
@@ -71,17 +71,25 @@ union_counts adds carried keeps r f one e n =
     let maps = carried r.parent f.made.parent r.kind f.made.kind f.condition one in
     rw e (adds r.parent (raw_children r.parent r.kind) (numbered_image r.kind) (from_image r.parent r.kind) maps n ∙ sym (children_counts keeps r f n))
 
-unbuilt : (r : TilingRule) → Follows r → is_built r.kind ≡ false → CountsCombine r
-unbuilt r f e = absurd (never_applying r.parent r.kind e f.condition)
+-- the factors are the raw children of a rule that factors
+factor_rule : (r : TilingRule) (sets : List (List Cell)) → Follows r → r.kind ≡ kind.Factor sets → IsFactorRule r sets
+factor_rule r sets f e = record {
+  parent = f.made.parent;
+  kind = e;
+  condition = rw e at f.condition;
+  raw = rw e at f.made.raw;
+  as_many = rw e at f.as_many;
+  replayed = rw e at f.replayed;
+}
 
-pub rules_count : UnitHasOneMember → PointHasOneMember → MembersWithinWeight → CountsAddUp → ReplaysKeepMembers → MembersAreCarried → RulesCount
-rules_count unit point within adds keeps carried r f = by_kind r.kind refl
+pub rules_count : UnitHasOneMember → PointHasOneMember → MembersWithinWeight → CountsAddUp → ReplaysKeepMembers → MembersAreCarried → FactorRulesCount → RulesCount
+rules_count unit point within adds keeps carried factors r f = by_kind r.kind refl
   where
     by_kind : (k : Kind) → r.kind ≡ k → CountsCombine r
     by_kind kind.Unit e = unit_counts unit r f e
     by_kind kind.Point e = point_counts point r f e
     by_kind kind.Void e = void_counts within r f e
-    by_kind (kind.Factor sets) e = unbuilt r f (ap is_built e)
+    by_kind (kind.Factor sets) e = factors r sets (factor_rule r sets f e)
     by_kind (kind.Insert pattern) e = union_counts adds carried keeps r f (ap has_one_image e) (ap shape_of e)
     by_kind (kind.Place qs d) e = union_counts adds carried keeps r f (ap has_one_image e) (ap shape_of e)
     by_kind (kind.RowCut y set) e = union_counts adds carried keeps r f (ap has_one_image e) (ap shape_of e)

@@ -5,7 +5,7 @@ use Rattle.tiling_core.specs.Tiles.{IsTiling}
 use Rattle.rule_kinds.specs.Replayed.{AreReplays}
 use Rattle.rule_kinds.specs.Kinds.{IsKept}
 use Rattle.rule_kinds.specs.Children.{raw_children}
-use Rattle.rule_kinds.specs.Built.{applies_now}
+use Rattle.rule_kinds.specs.Conditions.{applies}
 use Rattle.rule_kinds.specs.Follows.{Follows}
 use Rattle.tile_rules.proofs.Checked.{other_children, decided}
 use Rattle.tile_rules.proofs.check.check_rule.Goals as goal
@@ -18,7 +18,7 @@ returns-then-children-len c =
 pub returns : goal.returns
 returns c =
     let made : c.in-Ok.raw.items ≡ raw_children c.args.rule.now.parent c.args.rule.now.kind = rw (sym c.parent.ensures.value, sym c.kind.ensures.value) c.in-Ok.ensures.made in
-    let applicable : applies_now c.args.rule.now.parent c.args.rule.now.kind ≡ true = rw (sym c.parent.ensures.value, sym c.kind.ensures.value) c.in-Ok.ensures.applicable in
+    let applicable : applies c.args.rule.now.parent c.args.rule.now.kind ≡ true = rw (sym c.parent.ensures.value, sym c.kind.ensures.value) c.in-Ok.ensures.applicable in
     let many : length c.args.rule.now.traces ≡ length c.in-Ok.raw.items = sym (ap (λ ts. length ts) c.traces-traces.ensures.value) ∙ c.if-traces-len.false ∙ c.len.ensures ∙ c.in-Ok.raw.ok.0 in
     let parent : IsTiling c.args.rule.now.parent = rw (sym c.parent-2.ensures.value) c.width.ensures.kept in
     let kind : IsKept c.args.rule.now.kind = rw (sym c.kind-2.ensures.value) c.read_kind.ensures in
