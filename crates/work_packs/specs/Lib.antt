@@ -1,4 +1,3 @@
 pub mod PackTexts
-pub mod BuiltLetters
 pub mod KindLines
 pub mod RulesMade

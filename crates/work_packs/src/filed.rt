@@ -1,7 +1,13 @@
-ghost use Rattle.std.specs.Prelude.{◌≡◌, IfOk, All};
-ghost use Rattle.work_packs.specs.RulesMade.{IsTried, IsReduced, AreReduced, IsRuleBy, AreRulesBy};
+ghost use Rattle.std.specs.Prelude.{◌≡◌, true, IfOk, All};
+ghost use Rattle.tiling_core.specs.Tiles.{Tiles, IsTiling};
+ghost use Rattle.normal_form.specs.Thinned.{IsThinned};
+ghost use Rattle.rule_kinds.specs.Children.{raw_children};
+ghost use Rattle.rule_kinds.specs.Conditions.{applies};
+ghost use Rattle.work_packs.specs.RulesMade.{IsTried, IsReduced, AreReduced, ReducesThinned, IsRuleBy, AreRulesBy};
 
-use normal_form::{normalise, traces_are_determined};
+use normal_form::{normalise, normalise_thinned, traces_are_determined};
+use placement::placed_thinned;
+use rule_kinds::read_kind;
 use sequences::{Copied, Sequence};
 use std::alloc::{AllocError, Global};
 use steps::Step;
@@ -42,15 +48,69 @@ fn all_reduced(
     Ok((children, traces))
 }
 
+/// The normal form of a tiling that is given without some obstructions which hold others, and its trace, which can be
+/// kept. They are those of the whole tiling.
+fn thinned_reduced(
+    alloc: Global,
+    thinned: Tiling,
+    left_out: bool,
+) -> Result<(Tiling, Sequence<Step>), AllocError>
+    ensures { IfOk result (λ made. (t : Tiles) → IsTiling t → IsThinned t thinned left_out → IsReduced t made.0 made.1) }
+{
+    traces_are_determined();
+    let (child, steps) = normalise_thinned(alloc, thinned, left_out)?;
+    if steps.len() >= TOO_MANY {
+        return Err(AllocError);
+    }
+    Ok((child, Sequence::of(steps)))
+}
+
+/// The same for tilings, in order.
+fn all_thinned_reduced(
+    alloc: Global,
+    thinned: Vec<(Tiling, bool)>,
+) -> Result<(Vec<Tiling>, Vec<Sequence<Step>>), AllocError>
+    ensures { IfOk result (λ made. ReducesThinned thinned.items made.0.items made.1.items) }
+{
+    let mut children = Vec::with_capacity(alloc, thinned.len())?;
+    let mut traces = Vec::with_capacity(alloc, thinned.len())?;
+    for (tiling, left_out) in thinned {
+        let (child, trace) = thinned_reduced(alloc, tiling, left_out)?;
+        children.push(child)?;
+        traces.push(trace)?;
+    }
+    Ok((children, traces))
+}
+
+/// The normal forms of the raw children by a kind that applies, and their traces, in order. Those of a placement are
+/// built without what the first step would drop.
+#[tactic(auto, unfolding(rule_kinds::specs::Conditions::applies))]
+fn reduced_children(
+    alloc: Global,
+    tiling: &Tiling,
+    kind: &Kind,
+) -> Result<(Vec<Tiling>, Vec<Sequence<Step>>), AllocError>
+    requires { applies tiling.now kind.now ≡ true }
+    ensures { IfOk result (λ made. AreReduced (raw_children tiling.now kind.now) made.0.items made.1.items) }
+{
+    if let Kind::Place(pointed, direction) = kind {
+        let thinned = placed_thinned(alloc, tiling, pointed.as_slice(), *direction)?;
+        let (children, traces) = all_thinned_reduced(alloc, thinned)?;
+        return Ok((children, traces));
+    }
+    let raw = children_of(alloc, tiling, kind)?;
+    all_reduced(alloc, raw)
+}
+
 /// The rule by a kind that applies.
 fn rule_by(alloc: Global, tiling: &Tiling, kind: Kind) -> Result<TileRule, AllocError>
     requires { IsTried tiling.now kind }
     ensures { IfOk result (λ rule. IsRuleBy tiling.now kind rule) }
 {
-    // What a tiling keeps is known once it is read.
+    // What a tiling and a kind keep is known once they are read.
     let _ = tiling.width();
-    let raw = children_of(alloc, tiling, &kind)?;
-    let (children, traces) = all_reduced(alloc, raw)?;
+    read_kind(&kind);
+    let (children, traces) = reduced_children(alloc, tiling, &kind)?;
     let parent = tiling.copy(alloc)?;
     let children = Sequence::of(children);
     let traces = Sequence::of(traces);

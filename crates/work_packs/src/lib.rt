@@ -4,6 +4,10 @@
 mod choice;
 mod expansion;
 mod filed;
+#[cfg(test)]
+mod kinds_tests;
+mod lines;
+mod once;
 mod pack;
 #[cfg(test)]
 mod tests;

@@ -1,5 +1,4 @@
 ghost use Rattle.std.specs.Prelude.{◌≡◌, IfOk, length};
-ghost use Rattle.work_packs.specs.BuiltLetters.{HasOnlyIAndN};
 
 use crate::{Packs, expand};
 use gridded::{Cell, Gridded};
@@ -87,9 +86,7 @@ fn numbers_of_packs(rt: HostRuntime) {
 }
 
 /// The kinds of the rules in the filing of a tiling's normal form.
-fn kinds_filed(alloc: Global, tiling: Tiling, packs: Packs) -> Result<Vec<Kind>, AllocError>
-    requires { HasOnlyIAndN packs }
-{
+fn kinds_filed(alloc: Global, tiling: Tiling, packs: Packs) -> Result<Vec<Kind>, AllocError> {
     let (normal, _) = normalise(alloc, tiling)?;
     let filing = expand(alloc, &normal, packs)?;
     let mut kinds = Vec::new(alloc);
@@ -134,9 +131,7 @@ fn traces_filed(
     alloc: Global,
     tiling: Tiling,
     packs: Packs,
-) -> Result<Vec<Sequence<Step>>, AllocError>
-    requires { HasOnlyIAndN packs }
-{
+) -> Result<Vec<Sequence<Step>>, AllocError> {
     let (normal, _) = normalise(alloc, tiling)?;
     let filing = expand(alloc, &normal, packs)?;
     let mut traces = Vec::new(alloc);
