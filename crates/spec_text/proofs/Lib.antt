@@ -9,3 +9,8 @@ pub mod KeptEntries
 pub mod WrittenSpecs
 pub mod KindRows
 mod TextRows
+pub mod Joining
+pub mod Joined
+pub mod FileRanges
+pub mod ReadSpecs
+pub mod LineAnswers

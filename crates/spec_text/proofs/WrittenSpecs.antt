@@ -17,7 +17,6 @@ use Rattle.rule_kinds.specs.declared.kind.Kind.{Kind}
 use Rattle.rule_kinds.specs.declared.kind.Kind.TheVariants as kind
 use Rattle.rule_kinds.specs.Rules.{TilingRule}
 use Rattle.rule_kinds.specs.Children.{raw_children, placed, factor}
-use Rattle.rule_kinds.specs.Built.{is_built}
 use Rattle.rule_kinds.specs.Conditions.{applies}
 use Rattle.rule_kinds.specs.Follows.{Follows}
 use Rattle.tile_rules.specs.Meaning.{tile_meaning}
@@ -60,7 +59,7 @@ good_entry entries e linked follows rank =
     record {
       tiling = subst IsTiling linked.own made.parent;
       rank = rank;
-      kind = kind_line e.rule.parent e.rule.kind made.parent made.kind (second_so (is_built e.rule.kind) (applies e.rule.parent e.rule.kind) follows.condition);
+      kind = kind_line e.rule.parent e.rule.kind made.parent made.kind follows.condition;
       children = letters_below e.children (length entries) (child_below entries e linked);
       traces = traces.0;
       many = and_from (nat_eq (length e.children) (arity e.rule.kind)) (nat_eq (length e.rule.traces) (arity e.rule.kind)) (equal_tests (length e.children) (arity e.rule.kind) as_many) (equal_tests (length e.rule.traces) (arity e.rule.kind) many_traces);

@@ -3,3 +3,6 @@ pub mod Entries
 pub mod Texts
 pub mod EntryLaws
 pub mod Files
+pub mod Joined
+pub mod Joining
+pub mod LineAnswers
