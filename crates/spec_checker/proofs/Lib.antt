@@ -1,0 +1,12 @@
+pub mod Same
+pub mod Marks
+pub mod Differences
+pub mod Seen
+pub mod Joined
+pub mod Roots
+pub mod Telling
+pub mod Flags
+pub mod Counted
+pub mod Once
+pub mod Judged
+pub mod Verdicts

@@ -1,0 +1,4 @@
+pub mod Accepting
+pub mod Refusing
+pub mod Laws
+pub mod Passing
