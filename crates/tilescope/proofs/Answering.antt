@@ -1,48 +1,114 @@
 -- Answers, from what was read and what was found.
-use Rattle.std.proofs.Common.{◌≡◌, ℕ, true, Result, Ok, Err, refl, sym, ◌∙◌, arith, inl, inr, length}
-use Rattle.std.specs.Prelude.{◌≢◌, ◌⊎◌, IfOk, IsNone, Option, Some, List, [], ◌∷◌}
+use Rattle.std.proofs.Common.{◌≡◌, ℕ, true, Result, Ok, Err, refl, sym, ◌∙◌, arith, inl, inr, length, subst, ⊎_elim}
+use Rattle.std.specs.Prelude.{◌≢◌, ◌⊎◌, ◌≤◌, IfOk, IsNone, Option, Some, None, List, [], ◌∷◌}
 use Rattle.lists.specs.Members.IsIn.{here, later}
 use Rattle.outside.specs.Bytes.{GrewBy, GrewByPrefix}
+use Rattle.outside.specs.Reading.{IsWhole}
 use Rattle.css_domain.specs.Ledgers.{done, is_all_done}
 use Rattle.css_domain.specs.Reasons.{Reason, EndsFor}
 use Rattle.css_domain.specs.Reasons.Reason.{Found, Exhausted, Budget}
 use Rattle.tile_rules.specs.Meaning.{tile_meaning}
+use Rattle.tilescope.specs.declared.words.Command.{Command}
+use Rattle.tilescope.specs.declared.words.Command.TheVariants as command
 use Rattle.tilescope.specs.declared.words.OptName.TheVariants.{Workers, Budget as BudgetOption, Terms, Pack, Number}
 use Rattle.tilescope.specs.declared.words.WordFault.TheVariants.{Unbuilt, Words, Opt, Basis, Memory}
-use Rattle.tilescope.proofs.Forms.{terms_of_form}
+use Rattle.tilescope.proofs.Forms.{terms_of_form, not_of_both, has_form_of_search}
 use Rattle.tilescope.specs.declared.words.Request.{Request}
 use Rattle.tilescope.specs.declared.words.WordFault.{WordFault}
-use Rattle.tilescope.specs.Words.{Text, Reads, IsRefused}
-use Rattle.tilescope.specs.Answers.{IsAnswer, IsSearchAnswer, IsUsageAnswer, IsUsagePrefix, AreRefused, AreAccepted, IsOneOf, IsStatus, IsUsage, IsFoundWritten, IsNoneWritten, IsSearchPrefix, IsSolved, IsSearched, IsLedgerOf, HasSpecification, IsByPack, HasNoSpecification, HasEnded, IsBeyondPack}
+use Rattle.tilescope.specs.Words.{Text, ReadsSearch, ReadsText, ReadsBy, Reads, IsRefused}
+use Rattle.tilescope.specs.Verdicts.{most_bytes, IsVerdict}
+use Rattle.tilescope.specs.Verdicts.IsVerdict.{accepted, rejected}
+use Rattle.tilescope.specs.Answers.{IsMade, IsTold, IsAnswer, IsSearchAnswer, IsTextAnswer, IsUsageAnswer, IsUsagePrefix, AreRefused, AskForSearch, AskOfText, IsOneOf, IsStatus, IsSilent, IsUsage, IsFoundWritten, IsAcceptedText, IsNoneWritten, IsSearchPrefix, IsSearchOf, IsSolved, IsSearched, IsLedgerOf, HasSpecification, IsByPack, HasNoSpecification, HasEnded, IsBeyondPack, IsCheckedWritten, IsRejectedWritten, IsVerdictPrefix, IsUnread, IsTooLong}
 use Rattle.tilescope.specs.Searches.{TileBooks}
-use Rattle.tilescope.specs.Answers.IsAnswer.{usage, search}
-use Rattle.tilescope.specs.Answers.IsSearchAnswer.{found, none}
+use Rattle.tilescope.specs.Answers.IsMade.{whole as made_whole, long as made_long}
+use Rattle.tilescope.specs.Answers.IsAnswer.{usage, search, text}
+use Rattle.tilescope.specs.Answers.IsSearchAnswer.{found, none, long as long_search}
+use Rattle.tilescope.specs.Answers.IsTextAnswer.{unread, too_many, told, long as long_line}
+use Rattle.tilescope.specs.Answers.IsTooLong.{read as long_read, line as long_told, search as long_answer}
 
 pub if_ok-weaker : {A E : Type 0} (P Q : A → Type 0) → ((a : A) → P a → Q a) → (r : Result A E) → IfOk r P → IfOk r Q
 if_ok-weaker P Q w (Ok a) h = w a h
 if_ok-weaker P Q w (Err e) h = tt
 
-pub searched : (words : List Text) (request : Request) → Reads words request → (status : ℕ) (text : Text) (ledger : Option TileBooks) → IsSearchAnswer request status text ledger → IsAnswer words status text ledger
-searched words request read status text ledger h = search (record { request = request; read = read }) status text ledger h
+-- ---- an answer that is made of a status and a text
+pub made_none : (request : Request) (l : TileBooks) (why : Reason) (line : Text) → why ≢ Found → IsSearched request l why line → (s : ℕ) (t : Option Text) (b : Option TileBooks) → IsMade 1 line (Some l) s t b → IsSearchAnswer request s t b
+made_none request l why line ne h _ _ _ (made_whole short) = none l why line ne h short
+made_none request l why line ne h _ _ _ (made_long over) = long_search l why line h over
 
-pub refused_as : (words : List Text) (fault : WordFault) → IsRefused words fault → (status : ℕ) (text : Text) (ledger : Option TileBooks) → IsUsageAnswer fault status text ledger → IsAnswer words status text ledger
-refused_as words fault refused status text ledger h = rw (h.ends, h.says, h.no_ledger) (usage (record { fault = fault; refused = refused; not_memory = h.not_memory }))
+pub made_found : (request : Request) (l : TileBooks) (line : Text) → IsSearched request l Found line → (s : ℕ) (t : Option Text) (b : Option TileBooks) → IsMade 0 line (Some l) s t b → IsSearchAnswer request s t b
+made_found request l line h _ _ _ (made_whole short) = found l line h short
+made_found request l line h _ _ _ (made_long over) = long_search l Found line h over
+
+pub made_verdict : (request : Request) (Rose : Type 0) (before after : Option Text) (status : ℕ) (line : Text) → IsTold request before after status line → (s : ℕ) (t : Option Text) (b : Option TileBooks) → IsMade status line None s t b → IsTextAnswer request Rose before after s t
+made_verdict request Rose before after status line h _ _ _ (made_whole short) = told status line h short
+made_verdict request Rose before after status line h _ _ _ (made_long over) = long_line status line h over
+
+pub made_alone : (status : ℕ) (line : Text) (s : ℕ) (t : Option Text) (b : Option TileBooks) → IsMade status line None s t b → IsNone b
+made_alone status line _ _ _ (made_whole short) = refl
+made_alone status line _ _ _ (made_long over) = refl
 
 -- ---- words are read or refused, and not both
-not_both : (words : List Text) (request : Request) (fault : WordFault) → Reads words request → IsRefused words fault → fault ≢ Memory → ⊥
-not_both words request Unbuilt r f ne = f r.form
-not_both words request Words r f ne = f
-not_both words request (Opt Terms) r f ne =
+not_both_search : (words : List Text) (request : Request) (why : WordFault) → ReadsSearch words request → IsRefused words why → why ≢ Memory → ⊥
+not_both_search words request Unbuilt r f ne = f.no_search r.form
+not_both_search words request Words r f ne = f
+not_both_search words request (Opt Terms) r f ne =
     f.bad request.terms r.few_terms (sym (terms_of_form words f.form.basis f.form.pack f.form.terms f.form.are) ∙ terms_of_form words r.form.basis r.form.pack r.form.terms r.form.are ∙ r.terms)
-not_both words request (Opt Workers) r f ne = f
-not_both words request (Opt BudgetOption) r f ne = f
-not_both words request (Opt Pack) r f ne = f
-not_both words request (Opt Number) r f ne = f
-not_both words request (Basis b) r f ne = f
-not_both words request Memory r f ne = absurd (ne refl)
+not_both_search words request (Opt Workers) r f ne = f
+not_both_search words request (Opt BudgetOption) r f ne = f
+not_both_search words request (Opt Pack) r f ne = f
+not_both_search words request (Opt Number) r f ne = f
+not_both_search words request (Basis b) r f ne = f
+not_both_search words request Memory r f ne = absurd (ne refl)
 
-exclude : (words : List Text) → AreAccepted words → AreRefused words → ⊥
-exclude words a r = not_both words a.request r.fault a.read r.refused r.not_memory
+not_both_text : (words : List Text) (request : Request) (why : WordFault) → ReadsText words request → IsRefused words why → why ≢ Memory → ⊥
+not_both_text words request Unbuilt r f ne = f.no_text r.form
+not_both_text words request Words r f ne = f
+not_both_text words request (Opt Terms) r f ne = not_of_both words (has_form_of_search words f.form) r.form
+not_both_text words request (Opt Workers) r f ne = f
+not_both_text words request (Opt BudgetOption) r f ne = f
+not_both_text words request (Opt Pack) r f ne = f
+not_both_text words request (Opt Number) r f ne = f
+not_both_text words request (Basis b) r f ne = f
+not_both_text words request Memory r f ne = absurd (ne refl)
+
+module _ (words : List Text) where
+  searched_or_refused : AskForSearch words → AreRefused words → ⊥
+  searched_or_refused a r = not_both_search words a.request r.fault a.read r.refused r.not_memory
+
+  told_or_refused : AskOfText words → AreRefused words → ⊥
+  told_or_refused a r = not_both_text words a.request r.fault a.read r.refused r.not_memory
+
+  pub searched_or_told : AskForSearch words → AskOfText words → ⊥
+  searched_or_told a t = not_of_both words (has_form_of_search words a.read.form) t.read.form
+
+-- ---- what the words ask for, by the command
+pub asked_for_search : (words : List Text) (request : Request) → Reads words request → request.command ≡ command.Search → ReadsSearch words request
+asked_for_search words request r e = subst (λ (c : Command). ReadsBy c words request) e r
+
+asked_to_check : (words : List Text) (request : Request) → Reads words request → request.command ≡ command.Check → ReadsText words request
+asked_to_check words request r e = subst (λ (c : Command). ReadsBy c words request) e r
+
+asked_for_terms : (words : List Text) (request : Request) → Reads words request → request.command ≡ command.Terms → ReadsText words request
+asked_for_terms words request r e = subst (λ (c : Command). ReadsBy c words request) e r
+
+pub asked_of_text : (words : List Text) (request : Request) → Reads words request → (request.command ≡ command.Check) ⊎ (request.command ≡ command.Terms) → ReadsText words request
+asked_of_text words request r e = ⊎_elim (asked_to_check words request r) (asked_for_terms words request r) e
+
+module _ (words : List Text) (Rose : Type 0) (before after : Option Text) where
+  pub refused_as : (why : WordFault) → IsRefused words why → (s : ℕ) (t : Option Text) (b : Option TileBooks) → IsUsageAnswer why s t b → IsAnswer words Rose before after s t b
+  refused_as why refused s t b h = rw (h.ends, h.says, h.no_ledger) (usage (record { fault = why; refused = refused; not_memory = h.not_memory }))
+
+  pub searched_as : (request : Request) → ReadsSearch words request → (s : ℕ) (t : Option Text) (b : Option TileBooks) → IsSearchAnswer request s t b → IsAnswer words Rose before after s t b
+  searched_as request read s t b h = search (record { request = request; read = read }) s t b h
+
+  pub told_as : (request : Request) → ReadsText words request → (s : ℕ) (t : Option Text) (b : Option TileBooks) → IsTextAnswer request Rose before after s t → IsNone b → IsAnswer words Rose before after s t b
+  told_as request read s t None h alone = text (record { request = request; read = read }) s t h
+  told_as request read s t (Some l) h alone = absurd cc
+
+-- two facts of an answer
+pub if_ok-both : {A E : Type 0} (P Q S : A → Type 0) → ((a : A) → P a → Q a → S a) → (r : Result A E) → IfOk r P → IfOk r Q → IfOk r S
+if_ok-both P Q S w (Ok a) h k = w a h k
+if_ok-both P Q S w (Err e) h k = tt
 
 -- ---- why a ledger ends without a specification
 ended_by : (l : TileBooks) (why : Reason) → why ≢ Found → EndsFor tile_meaning l why → (is_all_done tile_meaning l ≡ true) ⊎ ((is_all_done tile_meaning l ≡ true → ⊥) × (length (done l) ≡ l.budget))
@@ -50,116 +116,331 @@ ended_by l Found ne e = absurd (ne refl)
 ended_by l Exhausted ne e = inl e.1
 ended_by l Budget ne e = inr (e.1, e.2)
 
--- ---- how an answer ends
-module _ (words : List Text) where
-  pub answer_status : (status : ℕ) (text : Text) (ledger : Option TileBooks) → IsAnswer words status text ledger → IsStatus status
-  answer_status _ _ _ (usage r) = later 0 (later 1 here)
-  answer_status _ _ _ (search a _ _ _ (found l text s)) = here
-  answer_status _ _ _ (search a _ _ _ (none l why text ne s)) = later 0 here
+-- ---- statuses
+st0 : IsStatus 0
+st0 = here
 
-  pub answer_refused : (status : ℕ) (text : Text) (ledger : Option TileBooks) → IsAnswer words status text ledger → AreRefused words → IsOneOf status (2 ∷ 5 ∷ 6 ∷ [])
-  answer_refused _ _ _ (usage r) h = here
-  answer_refused _ _ _ (search a _ _ _ s) h = absurd (exclude words a h)
+st1 : IsStatus 1
+st1 = later 0 here
 
-  pub answer_accepted : (status : ℕ) (text : Text) (ledger : Option TileBooks) → IsAnswer words status text ledger → AreAccepted words → IsOneOf status (0 ∷ 1 ∷ 5 ∷ 6 ∷ [])
-  answer_accepted _ _ _ (usage r) h = absurd (exclude words h r)
-  answer_accepted _ _ _ (search a _ _ _ (found l text s)) h = here
-  answer_accepted _ _ _ (search a _ _ _ (none l why text ne s)) h = later 0 here
+st2 : IsStatus 2
+st2 = later 0 (later 1 here)
 
-  pub answer_unsolved : (status : ℕ) (text : Text) (ledger : Option TileBooks) → IsAnswer words status text ledger → AreRefused words → IsNone ledger
-  answer_unsolved _ _ _ (usage r) h = refl
-  answer_unsolved _ _ _ (search a _ _ _ s) h = absurd (exclude words a h)
+st3 : IsStatus 3
+st3 = later 0 (later 1 (later 2 here))
 
-  pub answer_solved : (status : ℕ) (text : Text) (ledger : Option TileBooks) → IsAnswer words status text ledger → AreAccepted words → IsSolved words ledger
-  answer_solved _ _ _ (usage r) h = absurd (exclude words h r)
-  answer_solved _ _ _ (search a _ _ _ (found l text s)) h = record { why = Found; text = text; search = record { accepted = a; books = l; kept = refl; searched = s } }
-  answer_solved _ _ _ (search a _ _ _ (none l why text ne s)) h = record { why = why; text = text; search = record { accepted = a; books = l; kept = refl; searched = s } }
+st4 : IsStatus 4
+st4 = later 0 (later 1 (later 2 (later 3 here)))
 
-  -- the ledger of a search that the words ask for
-  own : (a : AreAccepted words) (l : TileBooks) (why : Reason) (text : Text) → IsSearched a.request l why text → IsLedgerOf words (Some l)
-  own a l why text s = record { accepted = a; books = l; kept = refl; root = s.explored.root; of_pack = s.explored.alone.of_rulebook }
-
-  pub answer_valid : (status : ℕ) (text : Text) (ledger : Option TileBooks) → IsAnswer words status text ledger → status ≡ 0 → HasSpecification words ledger
-  unfolding own
-  answer_valid _ _ _ (usage r) e = absurd (omega (arith, e))
-  answer_valid _ _ _ (search a _ _ _ (found l text s)) e = record { own = own a l Found text s; entries = s.says.entries; spec = s.says.spec }
-  answer_valid _ _ _ (search a _ _ _ (none l why text ne s)) e = absurd (omega (arith, e))
-
-  pub answer_by_pack : (status : ℕ) (text : Text) (ledger : Option TileBooks) → IsAnswer words status text ledger → status ≡ 0 → IsByPack words ledger
-  unfolding own
-  answer_by_pack _ _ _ (usage r) e = absurd (omega (arith, e))
-  answer_by_pack _ _ _ (search a _ _ _ (found l text s)) e = record { own = own a l Found text s; tried = s.by_pack }
-  answer_by_pack _ _ _ (search a _ _ _ (none l why text ne s)) e = absurd (omega (arith, e))
-
-  -- an answer itself doesn't end for want of memory
-  pub answer_has_memory : (status : ℕ) (text : Text) (ledger : Option TileBooks) → IsAnswer words status text ledger → status ≡ 6 → ⊥
-  answer_has_memory _ _ _ (usage r) e = omega (arith, e)
-  answer_has_memory _ _ _ (search a _ _ _ (found l text s)) e = omega (arith, e)
-  answer_has_memory _ _ _ (search a _ _ _ (none l why text ne s)) e = omega (arith, e)
-
-  pub answer_none : (status : ℕ) (text : Text) (ledger : Option TileBooks) → IsAnswer words status text ledger → status ≡ 1 → HasNoSpecification words ledger
-  unfolding own
-  answer_none _ _ _ (usage r) e = absurd (omega (arith, e))
-  answer_none _ _ _ (search a _ _ _ (found l text s)) e = absurd (omega (arith, e))
-  answer_none _ _ _ (search a _ _ _ (none l why text ne s)) e = record { own = own a l why text s; none = (s.without ne).none; none_filed = (s.without ne).none_filed }
-
-  pub answer_beyond : (status : ℕ) (text : Text) (ledger : Option TileBooks) → IsAnswer words status text ledger → status ≡ 1 → IsBeyondPack words ledger
-  unfolding own
-  answer_beyond _ _ _ (usage r) e = absurd (omega (arith, e))
-  answer_beyond _ _ _ (search a _ _ _ (found l text s)) e = absurd (omega (arith, e))
-  answer_beyond _ _ _ (search a _ _ _ (none l why text ne s)) e = record { own = own a l why text s; beyond = (s.without ne).beyond }
-
-  pub answer_ended : (status : ℕ) (text : Text) (ledger : Option TileBooks) → IsAnswer words status text ledger → status ≡ 1 → HasEnded words ledger
-  unfolding own
-  answer_ended _ _ _ (usage r) e = absurd (omega (arith, e))
-  answer_ended _ _ _ (search a _ _ _ (found l text s)) e = absurd (omega (arith, e))
-  answer_ended _ _ _ (search a _ _ _ (none l why text ne s)) e = record { own = own a l why text s; why = ended_by l why ne s.explored.ends; normal = s.explored.normal; complete = s.explored.alone.complete }
-
-  module _ (before now : Option (List ℕ)) where
-    pub answer_usage : (status : ℕ) (text : Text) (ledger : Option TileBooks) → IsAnswer words status text ledger → status ≡ 2 → GrewBy before now text → IsUsage words before now
-    answer_usage _ _ _ (usage r) e g = record { refused = r; written = g }
-    answer_usage _ _ _ (search a _ _ _ (found l text s)) e g = absurd (omega (arith, e))
-    answer_usage _ _ _ (search a _ _ _ (none l why text ne s)) e g = absurd (omega (arith, e))
-
-    pub answer_found : (status : ℕ) (text : Text) (ledger : Option TileBooks) → IsAnswer words status text ledger → status ≡ 0 → GrewBy before now text → IsFoundWritten words ledger before now
-    answer_found _ _ _ (usage r) e g = absurd (omega (arith, e))
-    answer_found _ _ _ (search a _ _ _ (found l text s)) e g = record { text = text; search = record { accepted = a; books = l; kept = refl; searched = s }; written = g }
-    answer_found _ _ _ (search a _ _ _ (none l why text ne s)) e g = absurd (omega (arith, e))
-
-    pub answer_none_written : (status : ℕ) (text : Text) (ledger : Option TileBooks) → IsAnswer words status text ledger → status ≡ 1 → GrewBy before now text → IsNoneWritten words ledger before now
-    answer_none_written _ _ _ (usage r) e g = absurd (omega (arith, e))
-    answer_none_written _ _ _ (search a _ _ _ (found l text s)) e g = absurd (omega (arith, e))
-    answer_none_written _ _ _ (search a _ _ _ (none l why text ne s)) e g = record { text = text; why = why; not_found = ne; search = record { accepted = a; books = l; kept = refl; searched = s }; written = g }
-
-    pub answer_prefix : (status : ℕ) (text : Text) (ledger : Option TileBooks) → IsAnswer words status text ledger → AreRefused words → GrewByPrefix before now text → IsUsagePrefix words before now
-    answer_prefix _ _ _ (usage r) h g = record { refused = r; written = g }
-    answer_prefix _ _ _ (search a _ _ _ s) h g = absurd (exclude words a h)
-
-    pub search_prefix : (status : ℕ) (text : Text) (ledger : Option TileBooks) → IsAnswer words status text ledger → AreAccepted words → GrewByPrefix before now text → IsSearchPrefix words ledger before now
-    search_prefix _ _ _ (usage r) h g = absurd (exclude words h r)
-    search_prefix _ _ _ (search a _ _ _ (found l text s)) h g = record { why = Found; text = text; search = record { accepted = a; books = l; kept = refl; searched = s }; written = g }
-    search_prefix _ _ _ (search a _ _ _ (none l why text ne s)) h g = record { why = why; text = text; search = record { accepted = a; books = l; kept = refl; searched = s }; written = g }
-
-    -- an answer itself doesn't end as a fault
-    pub no_fault : (status : ℕ) (text : Text) (ledger : Option TileBooks) → IsAnswer words status text ledger → AreAccepted words → status ≡ 5 → IsSearchPrefix words ledger before now
-    no_fault _ _ _ (usage r) h e = absurd (exclude words h r)
-    no_fault _ _ _ (search a _ _ _ (found l text s)) h e = absurd (omega (arith, e))
-    no_fault _ _ _ (search a _ _ _ (none l why text ne s)) h e = absurd (omega (arith, e))
+pub fault_status : IsStatus 5
+fault_status = later 0 (later 1 (later 2 (later 3 (later 4 here))))
 
 pub memory_status : IsStatus 6
-memory_status = later 0 (later 1 (later 2 (later 5 here)))
+memory_status = later 0 (later 1 (later 2 (later 3 (later 4 (later 5 here)))))
+
+st7 : IsStatus 7
+st7 = later 0 (later 1 (later 2 (later 3 (later 4 (later 5 (later 6 here))))))
 
 pub memory_refused : IsOneOf 6 (2 ∷ 5 ∷ 6 ∷ [])
 memory_refused = later 2 (later 5 here)
 
-pub memory_accepted : IsOneOf 6 (0 ∷ 1 ∷ 5 ∷ 6 ∷ [])
-memory_accepted = later 0 (later 1 (later 5 here))
+pub memory_searched : IsOneOf 6 (0 ∷ 1 ∷ 5 ∷ 6 ∷ 7 ∷ [])
+memory_searched = later 0 (later 1 (later 5 here))
 
-pub fault_status : IsStatus 5
-fault_status = later 0 (later 1 (later 2 here))
+pub memory_told : IsOneOf 6 (0 ∷ 3 ∷ 4 ∷ 5 ∷ 6 ∷ 7 ∷ [])
+memory_told = later 0 (later 3 (later 4 (later 5 here)))
 
 pub fault_refused : IsOneOf 5 (2 ∷ 5 ∷ 6 ∷ [])
 fault_refused = later 2 here
 
-pub fault_accepted : IsOneOf 5 (0 ∷ 1 ∷ 5 ∷ 6 ∷ [])
-fault_accepted = later 0 (later 1 here)
+pub fault_searched : IsOneOf 5 (0 ∷ 1 ∷ 5 ∷ 6 ∷ 7 ∷ [])
+fault_searched = later 0 (later 1 here)
+
+pub fault_told : IsOneOf 5 (0 ∷ 3 ∷ 4 ∷ 5 ∷ 6 ∷ 7 ∷ [])
+fault_told = later 0 (later 3 (later 4 here))
+
+-- a status with which something is written
+not_silent : (n : ℕ) → (n ≡ 4 → ⊥) → (n ≡ 6 → ⊥) → (n ≡ 7 → ⊥) → IsSilent n → ⊥
+not_silent _ f m l here = f refl
+not_silent _ f m l (later _ here) = m refl
+not_silent _ f m l (later _ (later _ here)) = l refl
+not_silent _ f m l (later _ (later _ (later _ h))) = elim h [ ]
+
+-- ---- how an answer ends, with a text that is to be written, or without
+module _ (words : List Text) (Rose : Type 0) (before after : Option Text) where
+  -- the verdict on a text
+  verdict_status : (request : Request) (bytes : Text) (s : ℕ) (line : Text) → IsVerdict request bytes s line → IsStatus s
+  verdict_status request bytes _ _ (accepted entries terms a c) = st0
+  verdict_status request bytes _ _ (rejected why ne r other) = st3
+
+  verdict_told : (request : Request) (bytes : Text) (s : ℕ) (line : Text) → IsVerdict request bytes s line → IsOneOf s (0 ∷ 3 ∷ 4 ∷ 5 ∷ 6 ∷ 7 ∷ [])
+  verdict_told request bytes _ _ (accepted entries terms a c) = here
+  verdict_told request bytes _ _ (rejected why ne r other) = later 0 here
+
+  verdict_is : (request : Request) (bytes : Text) (s : ℕ) (line : Text) → IsVerdict request bytes s line → (s ≡ 0) ⊎ (s ≡ 3)
+  verdict_is request bytes _ _ (accepted entries terms a c) = inl refl
+  verdict_is request bytes _ _ (rejected why ne r other) = inr refl
+
+  not_by_verdict : (request : Request) (bytes : Text) (s n : ℕ) (line : Text) → IsVerdict request bytes s line → s ≡ n → (n ≡ 0 → ⊥) → (n ≡ 3 → ⊥) → ⊥
+  not_by_verdict request bytes s n line v e z t = ⊎_elim (λ i. z (sym e ∙ i)) (λ i. t (sym e ∙ i)) (verdict_is request bytes s line v)
+
+  pub answer_status : (s : ℕ) (t : Option Text) (ledger : Option TileBooks) → IsAnswer words Rose before after s t ledger → IsStatus s
+  answer_status _ _ _ (usage r) = st2
+  answer_status _ _ _ (search a _ _ _ (found l line h short)) = st0
+  answer_status _ _ _ (search a _ _ _ (none l why line ne h short)) = st1
+  answer_status _ _ _ (search a _ _ _ (long_search l why line h over)) = st7
+  answer_status _ _ _ (text a _ _ (unread rose)) = st4
+  answer_status _ _ _ (text a _ _ (too_many took)) = st7
+  answer_status _ _ _ (text a _ _ (told s line h short)) = verdict_status a.request h.bytes s line h.verdict
+  answer_status _ _ _ (text a _ _ (long_line s line h over)) = st7
+
+  pub answer_refused : (s : ℕ) (t : Option Text) (ledger : Option TileBooks) → IsAnswer words Rose before after s t ledger → AreRefused words → IsOneOf s (2 ∷ 5 ∷ 6 ∷ [])
+  answer_refused _ _ _ (usage r) h = here
+  answer_refused _ _ _ (search a _ _ _ _) h = absurd (searched_or_refused words a h)
+  answer_refused _ _ _ (text a _ _ _) h = absurd (told_or_refused words a h)
+
+  pub answer_searched : (s : ℕ) (t : Option Text) (ledger : Option TileBooks) → IsAnswer words Rose before after s t ledger → AskForSearch words → IsOneOf s (0 ∷ 1 ∷ 5 ∷ 6 ∷ 7 ∷ [])
+  answer_searched _ _ _ (usage r) h = absurd (searched_or_refused words h r)
+  answer_searched _ _ _ (search a _ _ _ (found l line _ short)) h = here
+  answer_searched _ _ _ (search a _ _ _ (none l why line ne _ short)) h = later 0 here
+  answer_searched _ _ _ (search a _ _ _ (long_search l why line _ over)) h = later 0 (later 1 (later 5 (later 6 here)))
+  answer_searched _ _ _ (text a _ _ _) h = absurd (searched_or_told words h a)
+
+  pub answer_told : (s : ℕ) (t : Option Text) (ledger : Option TileBooks) → IsAnswer words Rose before after s t ledger → AskOfText words → IsOneOf s (0 ∷ 3 ∷ 4 ∷ 5 ∷ 6 ∷ 7 ∷ [])
+  answer_told _ _ _ (usage r) h = absurd (told_or_refused words h r)
+  answer_told _ _ _ (search a _ _ _ _) h = absurd (searched_or_told words a h)
+  answer_told _ _ _ (text a _ _ (unread rose)) h = later 0 (later 3 here)
+  answer_told _ _ _ (text a _ _ (too_many took)) h = later 0 (later 3 (later 4 (later 5 (later 6 here))))
+  answer_told _ _ _ (text a _ _ (told s line k short)) h = verdict_told a.request k.bytes s line k.verdict
+  answer_told _ _ _ (text a _ _ (long_line s line k over)) h = later 0 (later 3 (later 4 (later 5 (later 6 here))))
+
+  pub answer_alone : (s : ℕ) (t : Option Text) (ledger : Option TileBooks) → IsAnswer words Rose before after s t ledger → (AskForSearch words → ⊥) → IsNone ledger
+  answer_alone _ _ _ (usage r) h = refl
+  answer_alone _ _ _ (search a _ _ _ _) h = absurd (h a)
+  answer_alone _ _ _ (text a _ _ _) h = refl
+
+  -- the search that the words ask for, and its ledger
+  searched : (a : AskForSearch words) (l : TileBooks) (why : Reason) (line : Text) → IsSearched a.request l why line → IsSearchOf words (Some l) why line
+  searched a l why line h = record { asks = a; books = l; kept = refl; searched = h }
+
+  own : (a : AskForSearch words) (l : TileBooks) (why : Reason) (line : Text) → IsSearched a.request l why line → IsLedgerOf words (Some l)
+  own a l why line h = record { asks = a; books = l; kept = refl; root = h.explored.root; of_pack = h.explored.alone.of_rulebook }
+
+  pub answer_solved : (s : ℕ) (t : Option Text) (ledger : Option TileBooks) → IsAnswer words Rose before after s t ledger → AskForSearch words → IsSolved words ledger
+  answer_solved _ _ _ (usage r) h = absurd (searched_or_refused words h r)
+  answer_solved _ _ _ (search a _ _ _ (found l line k short)) h = record { why = Found; text = line; search = searched a l Found line k }
+  answer_solved _ _ _ (search a _ _ _ (none l why line ne k short)) h = record { why = why; text = line; search = searched a l why line k }
+  answer_solved _ _ _ (search a _ _ _ (long_search l why line k over)) h = record { why = why; text = line; search = searched a l why line k }
+  answer_solved _ _ _ (text a _ _ _) h = absurd (searched_or_told words h a)
+
+  pub answer_valid : (s : ℕ) (t : Option Text) (ledger : Option TileBooks) → IsAnswer words Rose before after s t ledger → AskForSearch words → s ≡ 0 → HasSpecification words ledger
+  unfolding own
+  answer_valid _ _ _ (usage r) h e = absurd (omega (arith, e))
+  answer_valid _ _ _ (search a _ _ _ (found l line k short)) h e = record { own = own a l Found line k; entries = k.says.entries; spec = k.says.spec }
+  answer_valid _ _ _ (search a _ _ _ (none l why line ne k short)) h e = absurd (omega (arith, e))
+  answer_valid _ _ _ (search a _ _ _ (long_search l why line k over)) h e = absurd (omega (arith, e))
+  answer_valid _ _ _ (text a _ _ _) h e = absurd (searched_or_told words h a)
+
+  pub answer_by_pack : (s : ℕ) (t : Option Text) (ledger : Option TileBooks) → IsAnswer words Rose before after s t ledger → AskForSearch words → s ≡ 0 → IsByPack words ledger
+  unfolding own
+  answer_by_pack _ _ _ (usage r) h e = absurd (omega (arith, e))
+  answer_by_pack _ _ _ (search a _ _ _ (found l line k short)) h e = record { own = own a l Found line k; tried = k.by_pack }
+  answer_by_pack _ _ _ (search a _ _ _ (none l why line ne k short)) h e = absurd (omega (arith, e))
+  answer_by_pack _ _ _ (search a _ _ _ (long_search l why line k over)) h e = absurd (omega (arith, e))
+  answer_by_pack _ _ _ (text a _ _ _) h e = absurd (searched_or_told words h a)
+
+  -- an answer itself doesn't end for want of memory
+  pub answer_has_memory : (s : ℕ) (t : Option Text) (ledger : Option TileBooks) → IsAnswer words Rose before after s t ledger → s ≡ 6 → ⊥
+  answer_has_memory _ _ _ (usage r) e = omega (arith, e)
+  answer_has_memory _ _ _ (search a _ _ _ (found l line k short)) e = omega (arith, e)
+  answer_has_memory _ _ _ (search a _ _ _ (none l why line ne k short)) e = omega (arith, e)
+  answer_has_memory _ _ _ (search a _ _ _ (long_search l why line k over)) e = omega (arith, e)
+  answer_has_memory _ _ _ (text a _ _ (unread rose)) e = omega (arith, e)
+  answer_has_memory _ _ _ (text a _ _ (too_many took)) e = omega (arith, e)
+  answer_has_memory _ _ _ (text a _ _ (told s line k short)) e = not_by_verdict a.request k.bytes s 6 line k.verdict e (λ i. omega (arith, i)) (λ i. omega (arith, i))
+  answer_has_memory _ _ _ (text a _ _ (long_line s line k over)) e = omega (arith, e)
+
+  -- nor as a fault of the sink
+  pub answer_no_fault : (s : ℕ) (t : Option Text) (ledger : Option TileBooks) → IsAnswer words Rose before after s t ledger → s ≡ 5 → ⊥
+  answer_no_fault _ _ _ (usage r) e = omega (arith, e)
+  answer_no_fault _ _ _ (search a _ _ _ (found l line k short)) e = omega (arith, e)
+  answer_no_fault _ _ _ (search a _ _ _ (none l why line ne k short)) e = omega (arith, e)
+  answer_no_fault _ _ _ (search a _ _ _ (long_search l why line k over)) e = omega (arith, e)
+  answer_no_fault _ _ _ (text a _ _ (unread rose)) e = omega (arith, e)
+  answer_no_fault _ _ _ (text a _ _ (too_many took)) e = omega (arith, e)
+  answer_no_fault _ _ _ (text a _ _ (told s line k short)) e = not_by_verdict a.request k.bytes s 5 line k.verdict e (λ i. omega (arith, i)) (λ i. omega (arith, i))
+  answer_no_fault _ _ _ (text a _ _ (long_line s line k over)) e = omega (arith, e)
+
+  pub answer_none : (s : ℕ) (t : Option Text) (ledger : Option TileBooks) → IsAnswer words Rose before after s t ledger → s ≡ 1 → HasNoSpecification words ledger
+  unfolding own
+  answer_none _ _ _ (usage r) e = absurd (omega (arith, e))
+  answer_none _ _ _ (search a _ _ _ (found l line k short)) e = absurd (omega (arith, e))
+  answer_none _ _ _ (search a _ _ _ (none l why line ne k short)) e = record { own = own a l why line k; none = (k.without ne).none; none_filed = (k.without ne).none_filed }
+  answer_none _ _ _ (search a _ _ _ (long_search l why line k over)) e = absurd (omega (arith, e))
+  answer_none _ _ _ (text a _ _ (unread rose)) e = absurd (omega (arith, e))
+  answer_none _ _ _ (text a _ _ (too_many took)) e = absurd (omega (arith, e))
+  answer_none _ _ _ (text a _ _ (told s line k short)) e = absurd (not_by_verdict a.request k.bytes s 1 line k.verdict e (λ i. omega (arith, i)) (λ i. omega (arith, i)))
+  answer_none _ _ _ (text a _ _ (long_line s line k over)) e = absurd (omega (arith, e))
+
+  pub answer_beyond : (s : ℕ) (t : Option Text) (ledger : Option TileBooks) → IsAnswer words Rose before after s t ledger → s ≡ 1 → IsBeyondPack words ledger
+  unfolding own
+  answer_beyond _ _ _ (usage r) e = absurd (omega (arith, e))
+  answer_beyond _ _ _ (search a _ _ _ (found l line k short)) e = absurd (omega (arith, e))
+  answer_beyond _ _ _ (search a _ _ _ (none l why line ne k short)) e = record { own = own a l why line k; beyond = (k.without ne).beyond }
+  answer_beyond _ _ _ (search a _ _ _ (long_search l why line k over)) e = absurd (omega (arith, e))
+  answer_beyond _ _ _ (text a _ _ (unread rose)) e = absurd (omega (arith, e))
+  answer_beyond _ _ _ (text a _ _ (too_many took)) e = absurd (omega (arith, e))
+  answer_beyond _ _ _ (text a _ _ (told s line k short)) e = absurd (not_by_verdict a.request k.bytes s 1 line k.verdict e (λ i. omega (arith, i)) (λ i. omega (arith, i)))
+  answer_beyond _ _ _ (text a _ _ (long_line s line k over)) e = absurd (omega (arith, e))
+
+  pub answer_ended : (s : ℕ) (t : Option Text) (ledger : Option TileBooks) → IsAnswer words Rose before after s t ledger → s ≡ 1 → HasEnded words ledger
+  unfolding own
+  answer_ended _ _ _ (usage r) e = absurd (omega (arith, e))
+  answer_ended _ _ _ (search a _ _ _ (found l line k short)) e = absurd (omega (arith, e))
+  answer_ended _ _ _ (search a _ _ _ (none l why line ne k short)) e = record { own = own a l why line k; why = ended_by l why ne k.explored.ends; normal = k.explored.normal; complete = k.explored.alone.complete }
+  answer_ended _ _ _ (search a _ _ _ (long_search l why line k over)) e = absurd (omega (arith, e))
+  answer_ended _ _ _ (text a _ _ (unread rose)) e = absurd (omega (arith, e))
+  answer_ended _ _ _ (text a _ _ (too_many took)) e = absurd (omega (arith, e))
+  answer_ended _ _ _ (text a _ _ (told s line k short)) e = absurd (not_by_verdict a.request k.bytes s 1 line k.verdict e (λ i. omega (arith, i)) (λ i. omega (arith, i)))
+  answer_ended _ _ _ (text a _ _ (long_line s line k over)) e = absurd (omega (arith, e))
+
+  pub answer_unread : (s : ℕ) (t : Option Text) (ledger : Option TileBooks) → IsAnswer words Rose before after s t ledger → s ≡ 4 → IsUnread words Rose
+  answer_unread _ _ _ (usage r) e = absurd (omega (arith, e))
+  answer_unread _ _ _ (search a _ _ _ (found l line k short)) e = absurd (omega (arith, e))
+  answer_unread _ _ _ (search a _ _ _ (none l why line ne k short)) e = absurd (omega (arith, e))
+  answer_unread _ _ _ (search a _ _ _ (long_search l why line k over)) e = absurd (omega (arith, e))
+  answer_unread _ _ _ (text a _ _ (unread rose)) e = record { asks = a; rose = rose }
+  answer_unread _ _ _ (text a _ _ (too_many took)) e = absurd (omega (arith, e))
+  answer_unread _ _ _ (text a _ _ (told s line k short)) e = absurd (not_by_verdict a.request k.bytes s 4 line k.verdict e (λ i. omega (arith, i)) (λ i. omega (arith, i)))
+  answer_unread _ _ _ (text a _ _ (long_line s line k over)) e = absurd (omega (arith, e))
+
+  pub answer_long : (s : ℕ) (t : Option Text) (ledger : Option TileBooks) → IsAnswer words Rose before after s t ledger → s ≡ 7 → IsTooLong words before after ledger
+  answer_long _ _ _ (usage r) e = absurd (omega (arith, e))
+  answer_long _ _ _ (search a _ _ _ (found l line k short)) e = absurd (omega (arith, e))
+  answer_long _ _ _ (search a _ _ _ (none l why line ne k short)) e = absurd (omega (arith, e))
+  answer_long _ _ _ (search a _ _ _ (long_search l why line k over)) e = long_answer why line (searched a l why line k) over
+  answer_long _ _ _ (text a _ _ (unread rose)) e = absurd (omega (arith, e))
+  answer_long _ _ _ (text a _ _ (too_many took)) e = long_read a took
+  answer_long _ _ _ (text a _ _ (told s line k short)) e = absurd (not_by_verdict a.request k.bytes s 7 line k.verdict e (λ i. omega (arith, i)) (λ i. omega (arith, i)))
+  answer_long _ _ _ (text a _ _ (long_line s line k over)) e = long_told a s line k over
+
+  -- ---- where there is a text
+  module _ (line : Text) where
+    -- its status isn't one with which nothing is written
+    pub answer_speaks : (s : ℕ) (t : Option Text) (ledger : Option TileBooks) → IsAnswer words Rose before after s t ledger → t ≡ Some line → IsSilent s → ⊥
+    answer_speaks _ _ _ (usage r) e h = not_silent 2 (λ i. omega (arith, i)) (λ i. omega (arith, i)) (λ i. omega (arith, i)) h
+    answer_speaks _ _ _ (search a _ _ _ (found l _ k short)) e h = not_silent 0 (λ i. omega (arith, i)) (λ i. omega (arith, i)) (λ i. omega (arith, i)) h
+    answer_speaks _ _ _ (search a _ _ _ (none l why _ ne k short)) e h = not_silent 1 (λ i. omega (arith, i)) (λ i. omega (arith, i)) (λ i. omega (arith, i)) h
+    answer_speaks _ _ _ (search a _ _ _ (long_search l why _ k over)) e h = absurd cc
+    answer_speaks _ _ _ (text a _ _ (unread rose)) e h = absurd cc
+    answer_speaks _ _ _ (text a _ _ (too_many took)) e h = absurd cc
+    answer_speaks _ _ _ (text a _ _ (told s _ k short)) e h =
+        not_silent s (λ i. not_by_verdict a.request k.bytes s 4 _ k.verdict i (λ j. omega (arith, j)) (λ j. omega (arith, j)))
+        (λ i. not_by_verdict a.request k.bytes s 6 _ k.verdict i (λ j. omega (arith, j)) (λ j. omega (arith, j)))
+        (λ i. not_by_verdict a.request k.bytes s 7 _ k.verdict i (λ j. omega (arith, j)) (λ j. omega (arith, j))) h
+    answer_speaks _ _ _ (text a _ _ (long_line s _ k over)) e h = absurd cc
+
+    module _ (held now : Option (List ℕ)) where
+      -- what was written is the answer's own text
+      own_text : (own_line : Text) → Some own_line ≡ Some line → GrewBy held now line → GrewBy held now own_line
+      own_text own_line e g = let same : line ≡ own_line = cc in subst (λ (x : Text). GrewBy held now x) same g
+
+      own_front : (own_line : Text) → Some own_line ≡ Some line → GrewByPrefix held now line → GrewByPrefix held now own_line
+      own_front own_line e g = let same : line ≡ own_line = cc in subst (λ (x : Text). GrewByPrefix held now x) same g
+
+      pub answer_usage : (s : ℕ) (t : Option Text) (ledger : Option TileBooks) → IsAnswer words Rose before after s t ledger → t ≡ Some line → s ≡ 2 → GrewBy held now line → IsUsage words held now
+      answer_usage _ _ _ (usage r) i e g = record { refused = r; written = own_text _ i g }
+      answer_usage _ _ _ (search a _ _ _ (found l _ k short)) i e g = absurd (omega (arith, e))
+      answer_usage _ _ _ (search a _ _ _ (none l why _ ne k short)) i e g = absurd (omega (arith, e))
+      answer_usage _ _ _ (search a _ _ _ (long_search l why _ k over)) i e g = absurd (omega (arith, e))
+      answer_usage _ _ _ (text a _ _ (unread rose)) i e g = absurd (omega (arith, e))
+      answer_usage _ _ _ (text a _ _ (too_many took)) i e g = absurd (omega (arith, e))
+      answer_usage _ _ _ (text a _ _ (told s own_line k short)) i e g = absurd (not_by_verdict a.request k.bytes s 2 own_line k.verdict e (λ j. omega (arith, j)) (λ j. omega (arith, j)))
+      answer_usage _ _ _ (text a _ _ (long_line s own_line k over)) i e g = absurd (omega (arith, e))
+
+      pub answer_found : (s : ℕ) (t : Option Text) (ledger : Option TileBooks) → IsAnswer words Rose before after s t ledger → t ≡ Some line → AskForSearch words → s ≡ 0 → GrewBy held now line → IsFoundWritten words ledger held now
+      answer_found _ _ _ (usage r) i h e g = absurd (omega (arith, e))
+      answer_found _ _ _ (search a _ _ _ (found l own_line k short)) i h e g = record { text = own_line; search = searched a l Found own_line k; short = short; written = own_text own_line i g }
+      answer_found _ _ _ (search a _ _ _ (none l why _ ne k short)) i h e g = absurd (omega (arith, e))
+      answer_found _ _ _ (search a _ _ _ (long_search l why _ k over)) i h e g = absurd (omega (arith, e))
+      answer_found _ _ _ (text a _ _ _) i h e g = absurd (searched_or_told words h a)
+
+      pub answer_none_written : (s : ℕ) (t : Option Text) (ledger : Option TileBooks) → IsAnswer words Rose before after s t ledger → t ≡ Some line → s ≡ 1 → GrewBy held now line → IsNoneWritten words ledger held now
+      answer_none_written _ _ _ (usage r) i e g = absurd (omega (arith, e))
+      answer_none_written _ _ _ (search a _ _ _ (found l _ k short)) i e g = absurd (omega (arith, e))
+      answer_none_written _ _ _ (search a _ _ _ (none l why own_line ne k short)) i e g = record { text = own_line; why = why; not_found = ne; search = searched a l why own_line k; short = short; written = own_text own_line i g }
+      answer_none_written _ _ _ (search a _ _ _ (long_search l why _ k over)) i e g = absurd (omega (arith, e))
+      answer_none_written _ _ _ (text a _ _ (unread rose)) i e g = absurd (omega (arith, e))
+      answer_none_written _ _ _ (text a _ _ (too_many took)) i e g = absurd (omega (arith, e))
+      answer_none_written _ _ _ (text a _ _ (told s own_line k short)) i e g = absurd (not_by_verdict a.request k.bytes s 1 own_line k.verdict e (λ j. omega (arith, j)) (λ j. omega (arith, j)))
+      answer_none_written _ _ _ (text a _ _ (long_line s own_line k over)) i e g = absurd (omega (arith, e))
+
+      -- the line of an accepted text
+      by_accepted : (a : AskOfText words) (bytes : Text) (s : ℕ) (own_line : Text) → IsWhole before after bytes → length bytes ≤ most_bytes → IsVerdict a.request bytes s own_line → s ≡ 0 → length own_line ≤ most_bytes → GrewBy held now own_line → IsCheckedWritten words before after held now
+      by_accepted a bytes _ _ whole few (accepted entries terms is counts) e short g = record { asks = a; bytes = bytes; whole = whole; few = few; entries = entries; terms = terms; accepted = is; counts = counts; short = short; written = g }
+      by_accepted a bytes _ _ whole few (rejected why ne r other) e short g = absurd (omega (arith, e))
+
+      by_rejected : (a : AskOfText words) (bytes : Text) (s : ℕ) (own_line : Text) → IsWhole before after bytes → length bytes ≤ most_bytes → IsVerdict a.request bytes s own_line → s ≡ 3 → length own_line ≤ most_bytes → GrewBy held now own_line → IsRejectedWritten words before after held now
+      by_rejected a bytes _ _ whole few (accepted entries terms is counts) e short g = absurd (omega (arith, e))
+      by_rejected a bytes _ _ whole few (rejected why ne r other) e short g = record { asks = a; bytes = bytes; whole = whole; few = few; why = why; not_memory = ne; refused = r; not_accepted = other; short = short; written = g }
+
+      pub answer_checked : (s : ℕ) (t : Option Text) (ledger : Option TileBooks) → IsAnswer words Rose before after s t ledger → t ≡ Some line → AskOfText words → s ≡ 0 → GrewBy held now line → IsCheckedWritten words before after held now
+      answer_checked _ _ _ (usage r) i h e g = absurd (omega (arith, e))
+      answer_checked _ _ _ (search a _ _ _ _) i h e g = absurd (searched_or_told words a h)
+      answer_checked _ _ _ (text a _ _ (unread rose)) i h e g = absurd (omega (arith, e))
+      answer_checked _ _ _ (text a _ _ (too_many took)) i h e g = absurd (omega (arith, e))
+      answer_checked _ _ _ (text a _ _ (told s own_line k short)) i h e g = by_accepted a k.bytes s own_line k.whole k.few k.verdict e short (own_text own_line i g)
+      answer_checked _ _ _ (text a _ _ (long_line s own_line k over)) i h e g = absurd (omega (arith, e))
+
+      pub answer_rejected : (s : ℕ) (t : Option Text) (ledger : Option TileBooks) → IsAnswer words Rose before after s t ledger → t ≡ Some line → s ≡ 3 → GrewBy held now line → IsRejectedWritten words before after held now
+      answer_rejected _ _ _ (usage r) i e g = absurd (omega (arith, e))
+      answer_rejected _ _ _ (search a _ _ _ (found l _ k short)) i e g = absurd (omega (arith, e))
+      answer_rejected _ _ _ (search a _ _ _ (none l why _ ne k short)) i e g = absurd (omega (arith, e))
+      answer_rejected _ _ _ (search a _ _ _ (long_search l why _ k over)) i e g = absurd (omega (arith, e))
+      answer_rejected _ _ _ (text a _ _ (unread rose)) i e g = absurd (omega (arith, e))
+      answer_rejected _ _ _ (text a _ _ (too_many took)) i e g = absurd (omega (arith, e))
+      answer_rejected _ _ _ (text a _ _ (told s own_line k short)) i e g = by_rejected a k.bytes s own_line k.whole k.few k.verdict e short (own_text own_line i g)
+      answer_rejected _ _ _ (text a _ _ (long_line s own_line k over)) i e g = absurd (omega (arith, e))
+
+      pub usage_prefix : (s : ℕ) (t : Option Text) (ledger : Option TileBooks) → IsAnswer words Rose before after s t ledger → t ≡ Some line → AreRefused words → GrewByPrefix held now line → IsUsagePrefix words held now
+      usage_prefix _ _ _ (usage r) i h g = record { refused = r; written = own_front _ i g }
+      usage_prefix _ _ _ (search a _ _ _ _) i h g = absurd (searched_or_refused words a h)
+      usage_prefix _ _ _ (text a _ _ _) i h g = absurd (told_or_refused words a h)
+
+      pub search_prefix : (s : ℕ) (t : Option Text) (ledger : Option TileBooks) → IsAnswer words Rose before after s t ledger → t ≡ Some line → AskForSearch words → GrewByPrefix held now line → IsSearchPrefix words ledger held now
+      search_prefix _ _ _ (usage r) i h g = absurd (searched_or_refused words h r)
+      search_prefix _ _ _ (search a _ _ _ (found l own_line k short)) i h g = record { why = Found; text = own_line; search = searched a l Found own_line k; short = short; written = own_front own_line i g }
+      search_prefix _ _ _ (search a _ _ _ (none l why own_line ne k short)) i h g = record { why = why; text = own_line; search = searched a l why own_line k; short = short; written = own_front own_line i g }
+      search_prefix _ _ _ (search a _ _ _ (long_search l why _ k over)) i h g = absurd cc
+      search_prefix _ _ _ (text a _ _ _) i h g = absurd (searched_or_told words h a)
+
+      pub text_prefix : (s : ℕ) (t : Option Text) (ledger : Option TileBooks) → IsAnswer words Rose before after s t ledger → t ≡ Some line → AskOfText words → GrewByPrefix held now line → IsVerdictPrefix words before after held now
+      text_prefix _ _ _ (usage r) i h g = absurd (told_or_refused words h r)
+      text_prefix _ _ _ (search a _ _ _ _) i h g = absurd (searched_or_told words a h)
+      text_prefix _ _ _ (text a _ _ (unread rose)) i h g = absurd cc
+      text_prefix _ _ _ (text a _ _ (too_many took)) i h g = absurd cc
+      text_prefix _ _ _ (text a _ _ (told s own_line k short)) i h g = record { asks = a; status = s; text = own_line; told = k; short = short; written = own_front own_line i g }
+      text_prefix _ _ _ (text a _ _ (long_line s own_line k over)) i h g = absurd cc
+
+  -- ---- where there is no text, the status is one with which nothing is written
+  pub answer_silent : (s : ℕ) (t : Option Text) (ledger : Option TileBooks) → IsAnswer words Rose before after s t ledger → t ≡ None → (s ≡ 4) ⊎ (s ≡ 7)
+  answer_silent _ _ _ (usage r) i = absurd cc
+  answer_silent _ _ _ (search a _ _ _ (found l _ k short)) i = absurd cc
+  answer_silent _ _ _ (search a _ _ _ (none l why _ ne k short)) i = absurd cc
+  answer_silent _ _ _ (search a _ _ _ (long_search l why _ k over)) i = inr refl
+  answer_silent _ _ _ (text a _ _ (unread rose)) i = inl refl
+  answer_silent _ _ _ (text a _ _ (too_many took)) i = inr refl
+  answer_silent _ _ _ (text a _ _ (told s _ k short)) i = absurd cc
+  answer_silent _ _ _ (text a _ _ (long_line s _ k over)) i = inr refl
+
+  -- so it is no other
+  pub not_silently : (s n : ℕ) (t : Option Text) (ledger : Option TileBooks) → IsAnswer words Rose before after s t ledger → t ≡ None → s ≡ n → (n ≡ 4 → ⊥) → (n ≡ 7 → ⊥) → ⊥
+  not_silently s n t ledger h i e four seven = ⊎_elim (λ k. four (sym e ∙ k)) (λ k. seven (sym e ∙ k)) (answer_silent s t ledger h i)
+
+-- a fault of the sink isn't such a status
+pub fault_speaks : IsSilent 5 → ⊥
+fault_speaks h = not_silent 5 (λ i. omega (arith, i)) (λ i. omega (arith, i)) (λ i. omega (arith, i)) h
+
+-- the text that was found is accepted
+pub accepted_text : (words : List Text) (ledger : Option TileBooks) (held now : Option (List ℕ)) → IsFoundWritten words ledger held now → IsAcceptedText words ledger held now
+accepted_text words ledger held now h = record { found = h; accepted = h.search.searched.says.accepted }

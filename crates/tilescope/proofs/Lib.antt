@@ -5,3 +5,5 @@ mod Roots
 mod Expansions
 mod Letters
 mod Solving
+mod Judging
+mod Accepted

@@ -1,31 +1,32 @@
 -- What a search answers, from what the calls say that solve it.
-use Rattle.std.proofs.Common.{◌≡◌, ◌<◌, ℕ, true, List, refl, sym, ap, ◌∙◌, subst}
-use Rattle.std.specs.Prelude.{◌≢◌, Some}
-use Rattle.lists.specs.Members.{IsIn}
+use Rattle.std.proofs.Common.{◌≡◌, ◌<◌, ◌≤◌, ℕ, List, refl, sym, ap, ◌∙◌, subst}
+use Rattle.std.specs.Prelude.{◌≢◌, Option, Some}
 use Rattle.patterns.specs.Occurs.{avoiders}
 use Rattle.steps.specs.declared.step.Step.{Step}
 use Rattle.normal_form.specs.TraceLaws.{trace}
 use Rattle.tiling_core.specs.Tiles.{Tiles, count}
 use Rattle.tiling_core.specs.Roots.{root_of}
-use Rattle.css_domain.specs.Entries.{Entry, ValidSpec, Picked, class_counts}
+use Rattle.css_domain.specs.Entries.{ValidSpec, Picked, class_counts}
 use Rattle.css_domain.specs.FiledSpecs.{IsFiledSpec, FiledSpecsStand}
 use Rattle.css_domain.specs.LedgerFacts.{IsLedger}
-use Rattle.css_domain.specs.Ledgers.{Counts, counts, is_all_done}
+use Rattle.css_domain.specs.Ledgers.{counts}
 use Rattle.css_domain.specs.Reasons.{Reason, RootStands, EndsFor, Alone}
 use Rattle.css_domain.specs.Reasons.Reason.{Found, Exhausted, Budget}
 use Rattle.css_terms.specs.Terms.{terms_to}
 use Rattle.basis_terms.specs.BasisTerms.{terms_of}
-use Rattle.rule_kinds.specs.Choices.{Packs}
-use Rattle.rule_kinds.specs.Rules.{TilingRule}
 use Rattle.tile_rules.specs.Complete.{rulebook_of}
 use Rattle.tile_rules.specs.Meaning.{tile_meaning}
-use Rattle.pack_law.specs.Tried.{AreTried, IsFiledFor, AloneIsFiled, ClassesAreNormal, NoSpec, FiledAreTried}
+use Rattle.pack_law.specs.Tried.{IsFiledFor, AloneIsFiled, ClassesAreNormal, NoSpec, FiledAreTried}
 use Rattle.spec_lines.specs.Lines.{Text}
 use Rattle.spec_text.specs.Texts.{spec_text}
+use Rattle.perm_core.specs.Basis.{IsBasis}
+use Rattle.spec_text.specs.Files.{KeptSpecsAreSpelled}
+use Rattle.spec_checker.specs.Accepting.{Accepts}
+use Rattle.tilescope.proofs.Accepted.{found_is_accepted}
 use Rattle.tilescope.specs.declared.words.Request.{Request}
 use Rattle.tilescope.specs.Searches.{TileBooks, TileEntries, IsReducedRoot, IsExplored, IsSpecOf, IsWithout, AreRulesOfPack, IsAnswerText, none_line}
-use Rattle.tilescope.specs.Answers.{IsSearchAnswer, IsSearched}
-use Rattle.tilescope.specs.Answers.IsSearchAnswer.{found, none}
+use Rattle.tilescope.specs.Answers.{IsMade, IsSearchAnswer}
+use Rattle.tilescope.proofs.Answering.{made_none, made_found}
 
 same_terms : (last : ℕ) (f g : ℕ → ℕ) → ((n : ℕ) → f n ≡ g n) → terms_to last f ≡ terms_to last g
 same_terms last f g h i = terms_to last (λ n. h n i)
@@ -78,19 +79,23 @@ module _ (stand : FiledSpecsStand tile_meaning) (alone_is_filed : AloneIsFiled) 
         beyond = λ done entries valid tried. no_spec request.packs l entries filed_for (unsettled, done) valid tried;
       }
 
-  pub none_answer : (why : Reason) (text : Text) → EndsFor tile_meaning l why → (RootStands tile_meaning l → ⊥) → text ≡ none_line why (counts tile_meaning l) → IsSearchAnswer request 1 text (Some l)
-  none_answer why text ends unsettled line =
+  pub none_answer : (why : Reason) (text : Text) → EndsFor tile_meaning l why → (RootStands tile_meaning l → ⊥) → text ≡ none_line why (counts tile_meaning l) → (s : ℕ) (t : Option Text) (b : Option TileBooks) → IsMade 1 text (Some l) s t b → IsSearchAnswer request s t b
+  none_answer why text ends unsettled line s t b made =
       let ne = not_found l why ends unsettled in
-      none l why text ne (record { explored = explored why ends; says = none_text request.basis request.terms l why text ne line; by_pack = by_pack; without = λ _. without unsettled })
+      made_none request l why text ne (record { explored = explored why ends; says = none_text request.basis request.terms l why text ne line; by_pack = by_pack; without = λ _. without unsettled }) s t b made
 
-  pub found_answer : (entries : TileEntries) (steps : List Step) (text : Text) → Picked tile_meaning l 0 entries → IsFiledSpec tile_meaning l entries → steps ≡ trace (root_of request.basis)
-      → text ≡ spec_text request.basis steps entries (terms_to request.terms (class_counts tile_meaning entries 0)) → IsSearchAnswer request 0 text (Some l)
-  found_answer entries steps text picked spec traced written =
+  pub found_answer : KeptSpecsAreSpelled → IsBasis request.basis → request.terms ≤ 200 → (entries : TileEntries) (steps : List Step) (text : Text) → Picked tile_meaning l 0 entries → IsFiledSpec tile_meaning l entries → steps ≡ trace (root_of request.basis)
+      → text ≡ spec_text request.basis steps entries (terms_to request.terms (class_counts tile_meaning entries 0)) → (s : ℕ) (t : Option Text) (b : Option TileBooks) → IsMade 0 text (Some l) s t b → IsSearchAnswer request s t b
+  found_answer spelled kept short entries steps text picked spec traced written s t b made =
       let terms : terms_to request.terms (class_counts tile_meaning entries 0) ≡ terms_of request.basis request.terms = same_terms request.terms (class_counts tile_meaning entries 0) (avoiders request.basis) (root_counts request.basis l entries own_root spec.valid) in
-      found l text
+      let own_spec : IsSpecOf l entries = record { picked = picked; valid = spec.valid; filed = spec.filed } in
+      let whole : text ≡ spec_text request.basis (trace (root_of request.basis)) entries (terms_of request.basis request.terms) = written ∙ (λ i. spec_text request.basis (traced i) entries (terms i)) in
+      let accepted = found_is_accepted spelled request.basis kept request.terms short l ledger entries own_spec own_root (sym terms) in
+      made_found request l text
       (record {
         explored = explored Found (stands l entries picked);
-        says = record { entries = entries; spec = record { picked = picked; valid = spec.valid; filed = spec.filed }; written = written ∙ (λ i. spec_text request.basis (traced i) entries (terms i)) };
+        says = record { entries = entries; spec = own_spec; written = whole; accepted = subst (λ (x : Text). Accepts request.basis x) (sym whole) accepted };
         by_pack = by_pack;
         without = λ ne. absurd (ne refl);
       })
+      s t b made

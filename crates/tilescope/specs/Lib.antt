@@ -1,4 +1,5 @@
 pub mod Words
 pub mod Usage
 pub mod Searches
+pub mod Verdicts
 pub mod Answers

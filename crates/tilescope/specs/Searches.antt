@@ -20,6 +20,7 @@ use Rattle.tile_rules.specs.Meaning.{tile_meaning}
 use Rattle.pack_law.specs.Tried.{AreTried}
 use Rattle.spec_lines.specs.Lines.{Text, line}
 use Rattle.spec_text.specs.Texts.{spec_text}
+use Rattle.spec_checker.specs.Accepting.{Accepts}
 
 abbrev pub TileBooks : Type 0
 TileBooks = Books Tiles TilingRule
@@ -57,11 +58,12 @@ pub record IsSpecOf (l : TileBooks) (entries : TileEntries) : Type 0 where
   pub valid : ValidSpec tile_meaning entries l.root
   pub filed : (e : Entry Tiles TilingRule) → IsIn e entries → IsIn e.rule l.rules
 
--- the text of that specification, with the capped numbers of the permutations that avoid the basis
+-- the text of that specification, with the capped numbers of the permutations that avoid the basis; the checker accepts it
 pub record IsSpecText (basis : List (List ℕ)) (last : ℕ) (l : TileBooks) (text : Text) : Type 0 where
   pub entries : TileEntries
   pub spec : IsSpecOf l entries
   pub written : text ≡ spec_text basis (trace (root_of basis)) entries (terms_of basis last)
+  pub accepted : Accepts basis text
 
 -- the root stands nowhere among the rules filed; so no valid specification of it has all its rules among them, nor, where every class was expanded, among the rules of the pack
 pub record IsWithout (packs : Packs) (l : TileBooks) : Type 0 where

@@ -1,5 +1,4 @@
 ghost use Rattle.std.specs.Prelude.{◌≡◌};
-ghost use Rattle.work_packs.specs.BuiltLetters.{HasOnlyIAndN};
 
 use css_crew::Expander;
 use css_domain::Filing;
@@ -20,21 +19,17 @@ pub struct ByPack {
 
 impl Model for ByPack {
     ghost use Rattle.rule_kinds.specs.Choices.{Packs as Letters};
-    ghost use Rattle.work_packs.specs.BuiltLetters.{HasOnlyIAndN};
 
     ghost Value = { Letters };
 
     ghost view = { λ expander. expander.packs };
 
-    ghost invariant = { λ expander. HasOnlyIAndN expander.packs };
-
     ghost inverse = { λ packs. record { packs = packs } };
 }
 
 impl ByPack {
-    /// The expander of a pack, whose letters are built: `i` and `n`. Takes no memory.
+    /// The expander of a pack. Takes no memory.
     pub fn of(packs: Packs) -> ByPack
-        requires { HasOnlyIAndN packs }
         ensures { result ≡ packs }
     {
         ByPack { packs }

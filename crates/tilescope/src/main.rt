@@ -4,10 +4,12 @@
 
 mod answer;
 mod by_pack;
+mod made;
 mod none_line;
 mod root;
 mod run;
 mod usage;
+mod verdict;
 mod words;
 
 use outside::{StdSink, StdSource};
@@ -41,4 +43,8 @@ fn main(rt: HostRuntime) -> io::Result<ExitCode> {
 }
 
 #[cfg(test)]
+mod search_tests;
+#[cfg(test)]
 mod tests;
+#[cfg(test)]
+mod text_tests;

@@ -1,9 +1,10 @@
 ghost use Rattle.std.specs.Prelude.{◌≡◌, ◌≢◌, [], ◌∷◌, IsNone, map, string_bytes};
 ghost use Rattle.outside.specs.Bytes.{GrewBy};
 ghost use Rattle.outside.specs.Counts.{Rose};
-ghost use Rattle.tilescope.specs.Answers.{AreRefused, AreAccepted, IsOneOf, IsStatus, IsUsage, IsUsagePrefix, IsFoundWritten, IsNoneWritten, HasSpecification, IsByPack, HasNoSpecification, HasEnded, IsBeyondPack, IsSolved, IsSearchPrefix};
+ghost use Rattle.tilescope.specs.Answers.{AreRefused, AskForSearch, AskOfText, IsOneOf, IsStatus, IsSilent, IsUsage, IsUsagePrefix, IsFoundWritten, IsAcceptedText, IsNoneWritten, HasSpecification, IsByPack, HasNoSpecification, HasEnded, IsBeyondPack, IsSolved, IsSearchPrefix, IsCheckedWritten, IsRejectedWritten, IsVerdictPrefix, IsUnread, IsTooLong};
 
-use crate::answer::{Answer, answer_to};
+use crate::answer::answer_to;
+use crate::made::Answer;
 use css_ledger::Ledger;
 use outside::{Sink, Source, write_all};
 use std::alloc::Global;
@@ -12,43 +13,53 @@ use tile_rules::Tiles;
 /// How a command ended.
 #[derive(Drop)]
 pub struct Ended {
-    /// 0 done, 1 none found, 2 the words are refused, 5 a write failed, 6 out of memory.
+    /// 0 done, 1 none found, 2 the words are refused, 3 the text is refused, 4 a read failed, 5 a write failed, 6
+    /// out of memory, 7 what was read or is to be written has over 268,435,456 bytes.
     pub status: u8,
     /// The ledger of a search that had solved.
     pub ledger: Option<Ledger<Tiles>>,
 }
 
 /// Does what the words after the program's name ask for (docs/FORMATS.md, "Command words"), with one
-/// worker. All that it writes is made first and written last.
+/// worker. All that it writes is made first and written last. `check` and `terms` read all that the source has
+/// left; no other command uses it.
 pub fn run_plain<S: Source, K: Sink>(
     alloc: Global,
     words: &[String],
     source: &mut S,
     sink: &mut K,
 ) -> Ended
-    ensures source { source.new ≡ source.old }
     ensures statuses { IsStatus result.status }
     ensures refused { AreRefused (map string_bytes words.now) → IsOneOf result.status (2 ∷ 5 ∷ 6 ∷ []) }
-    ensures accepted { AreAccepted (map string_bytes words.now) → IsOneOf result.status (0 ∷ 1 ∷ 5 ∷ 6 ∷ []) }
+    ensures search { AskForSearch (map string_bytes words.now) → IsOneOf result.status (0 ∷ 1 ∷ 5 ∷ 6 ∷ 7 ∷ []) }
+    ensures text { AskOfText (map string_bytes words.now) → IsOneOf result.status (0 ∷ 3 ∷ 4 ∷ 5 ∷ 6 ∷ 7 ∷ []) }
+    ensures source { (AskOfText (map string_bytes words.now) → ⊥) → source.new ≡ source.old }
 
-    ensures found { result.status ≡ 0 → IsFoundWritten (map string_bytes words.now) result.ledger (K.held sink.old) (K.held sink.new) }
-    ensures valid { result.status ≡ 0 → HasSpecification (map string_bytes words.now) result.ledger }
-    ensures by_pack { result.status ≡ 0 → IsByPack (map string_bytes words.now) result.ledger }
+    ensures found { AskForSearch (map string_bytes words.now) → result.status ≡ 0 → IsFoundWritten (map string_bytes words.now) result.ledger (K.held sink.old) (K.held sink.new) }
+    ensures valid { AskForSearch (map string_bytes words.now) → result.status ≡ 0 → HasSpecification (map string_bytes words.now) result.ledger }
+    ensures by_pack { AskForSearch (map string_bytes words.now) → result.status ≡ 0 → IsByPack (map string_bytes words.now) result.ledger }
+    ensures accepted_text { AskForSearch (map string_bytes words.now) → result.status ≡ 0 → IsAcceptedText (map string_bytes words.now) result.ledger (K.held sink.old) (K.held sink.new) }
     ensures none { result.status ≡ 1 → IsNoneWritten (map string_bytes words.now) result.ledger (K.held sink.old) (K.held sink.new) }
     ensures no_specification { result.status ≡ 1 → HasNoSpecification (map string_bytes words.now) result.ledger }
     ensures ended { result.status ≡ 1 → HasEnded (map string_bytes words.now) result.ledger }
     ensures beyond { result.status ≡ 1 → IsBeyondPack (map string_bytes words.now) result.ledger }
     ensures usage { result.status ≡ 2 → IsUsage (map string_bytes words.now) (K.held sink.old) (K.held sink.new) }
-    ensures write_fault { result.status ≡ 5 → Rose (K.faults sink.old) (K.faults sink.new) }
-    ensures untouched { result.status ≡ 6 → sink.new ≡ sink.old }
-    ensures memory { result.status ≡ 6 → GrewBy (K.held sink.old) (K.held sink.new) [] }
 
-    ensures solved { AreAccepted (map string_bytes words.now) → result.status ≢ 6 → IsSolved (map string_bytes words.now) result.ledger }
-    ensures no_ledger { AreRefused (map string_bytes words.now) → IsNone result.ledger }
+    ensures checked { AskOfText (map string_bytes words.now) → result.status ≡ 0 → IsCheckedWritten (map string_bytes words.now) (S.left source.old) (S.left source.new) (K.held sink.old) (K.held sink.new) }
+    ensures rejected { result.status ≡ 3 → IsRejectedWritten (map string_bytes words.now) (S.left source.old) (S.left source.new) (K.held sink.old) (K.held sink.new) }
+    ensures unread { result.status ≡ 4 → IsUnread (map string_bytes words.now) (Rose (S.faults source.old) (S.faults source.new)) }
+    ensures write_fault { result.status ≡ 5 → Rose (K.faults sink.old) (K.faults sink.new) }
+    ensures long { result.status ≡ 7 → IsTooLong (map string_bytes words.now) (S.left source.old) (S.left source.new) result.ledger }
+    ensures untouched { IsSilent result.status → sink.new ≡ sink.old }
+    ensures silent { IsSilent result.status → GrewBy (K.held sink.old) (K.held sink.new) [] }
+
+    ensures solved { AskForSearch (map string_bytes words.now) → result.status ≢ 6 → IsSolved (map string_bytes words.now) result.ledger }
+    ensures no_ledger { (AskForSearch (map string_bytes words.now) → ⊥) → IsNone result.ledger }
     ensures nothing_kept { result.status ≡ 6 → IsNone result.ledger }
 
-    ensures search_prefix { AreAccepted (map string_bytes words.now) → result.status ≡ 5 → IsSearchPrefix (map string_bytes words.now) result.ledger (K.held sink.old) (K.held sink.new) }
+    ensures search_prefix { AskForSearch (map string_bytes words.now) → result.status ≡ 5 → IsSearchPrefix (map string_bytes words.now) result.ledger (K.held sink.old) (K.held sink.new) }
     ensures usage_prefix { AreRefused (map string_bytes words.now) → result.status ≡ 5 → IsUsagePrefix (map string_bytes words.now) (K.held sink.old) (K.held sink.new) }
+    ensures text_prefix { AskOfText (map string_bytes words.now) → result.status ≡ 5 → IsVerdictPrefix (map string_bytes words.now) (S.left source.old) (S.left source.new) (K.held sink.old) (K.held sink.new) }
 {
     let Ok(
         Answer {
@@ -56,12 +67,15 @@ pub fn run_plain<S: Source, K: Sink>(
             text,
             ledger,
         },
-    ) = answer_to(alloc, words)
+    ) = answer_to(alloc, words, source)
     else {
         return Ended {
             status: 6,
             ledger: None,
         };
+    };
+    let Some(text) = text else {
+        return Ended { status, ledger };
     };
     match write_all(sink, text.as_slice()) {
         Ok(()) => Ended { status, ledger },

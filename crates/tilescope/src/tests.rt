@@ -4,7 +4,7 @@ use std::alloc::{AllocError, Global};
 use std::process::Abort;
 use std::test::Fail;
 
-const INSERTION: &str = "tilescope 1
+pub(crate) const INSERTION: &str = "tilescope 1
 basis 01,10
 root -
 entries 3
@@ -29,7 +29,7 @@ terms 1 1 0 0
 end
 ";
 
-const UNIT: &str = "tilescope 1
+pub(crate) const UNIT: &str = "tilescope 1
 basis 0
 root C0 R0
 entries 1
@@ -43,7 +43,7 @@ end
 ";
 
 /// The words of a command line.
-fn words(alloc: Global, line: &str) -> Result<Vec<String>, AllocError> {
+pub(crate) fn words(alloc: Global, line: &str) -> Result<Vec<String>, AllocError> {
     let mut words = Vec::new(alloc);
     for word in line.split(' ') {
         words.push(String::from_str(alloc, word)?)?;
@@ -80,7 +80,12 @@ fn first_rows(rt: HostRuntime) -> Result<(), Fail> {
             1,
             "none exhausted 3 3 2\n",
         ),
-        ("search 132 --pack r --terms 10", 2, "usage unbuilt\n"),
+        (
+            "search 132 --pack f --terms 10",
+            1,
+            "none exhausted 1 1 0\n",
+        ),
+        ("search 132 --pack q --terms 10", 2, "usage unbuilt\n"),
         ("search 132 --pack ii --terms 10", 2, "usage unbuilt\n"),
         ("search 12 --pack i --terms 201", 2, "usage option terms\n"),
         ("search 112 --pack i --terms 3", 2, "usage unbuilt\n"),
@@ -150,7 +155,7 @@ fn a_write_fails(rt: HostRuntime) -> Result<(), Fail> {
 #[test]
 fn a_usage_line_is_not_written(rt: HostRuntime) -> Result<(), Fail> {
     let alloc = rt.alloc();
-    let words = words(alloc, "search 1 --pack r --terms 3")?;
+    let words = words(alloc, "search 1 --pack rr --terms 3")?;
     let mut fail = Vec::new(alloc);
     fail.push(0)?;
     let mut source = SteadySource::new(Vec::new(alloc));

@@ -19,8 +19,8 @@ fn option_name(name: OptName) -> &'static [u8]
     }
 }
 
-/// Appends a word and a place.
-fn put_place(out: &mut Vec<u8>, word: &[u8], at: u64) -> Result<(), AllocError>
+/// Appends a word and a place or a number.
+pub(crate) fn put_place(out: &mut Vec<u8>, word: &[u8], at: u64) -> Result<(), AllocError>
     ensures { OnOk result (out.new.items ≡ out.old.items ++ (word.now ++ decimal at)) }
 {
     let mut buffer = Buffer::new();

@@ -1,7 +1,6 @@
 ghost use Rattle.std.specs.Prelude.{◌≡◌, ◌<◌, ◌↔◌, [], IfOk, IfErr, IfSome, IsNone, Some, IsTrue, length, map, slice_index_or, string_bytes};
 ghost use Rattle.work_packs.specs.PackTexts.{read_packs};
-ghost use Rattle.work_packs.specs.BuiltLetters.{HasOnlyIAndN};
-ghost use Rattle.tilescope.specs.Words.{IsNumberUpTo, HasForm, IsBuiltPack, Reads, IsRefused};
+ghost use Rattle.tilescope.specs.Words.{IsNumberUpTo, HasForm, HasTextForm, IsTextForm, Reads, IsRefused};
 
 use itoa::Buffer;
 use perm_core::{BasisFault, Perm, read_basis};
@@ -73,6 +72,20 @@ pub const DEFAULT_BUDGET: u32 = 500;
 /// The last length of the terms that may be asked for.
 pub const LAST_TERM: u32 = 200;
 
+/// The last length of the terms where the words do not say.
+pub const DEFAULT_TERM: u32 = 10;
+
+/// The letters of the strategies that are tried where the words do not say.
+pub const ALL_LETTERS: Packs = Packs {
+    i: true,
+    r: true,
+    c: true,
+    p: true,
+    f: true,
+    s: true,
+    n: true,
+};
+
 /// The number of at most `most` whose decimal text this is, without leading zeros; None where there is none.
 fn number_up_to(text: &str, most: u32) -> Option<u32>
     ensures { IsNumberUpTo text.now most result }
@@ -114,38 +127,30 @@ fn has_form(words: &[String]) -> bool
     is_word(words, 4, "--terms")
 }
 
-/// Whether no letter is on but those whose strategies are built.
-fn is_built(packs: Packs) -> bool
-    ensures { IsTrue result ↔ HasOnlyIAndN packs }
+/// The command that reads a text whose words these are, but for the basis; None where there is none.
+fn text_command(words: &[String]) -> Option<Command>
+    ensures some { IfSome result (λ command. HasTextForm (map string_bytes words.now) command) }
+    ensures none { IsNone result → IsTextForm (map string_bytes words.now) → ⊥ }
 {
-    !(packs.r || packs.c || packs.p || packs.f || packs.s)
-}
-
-/// The pack that a text names, where its letters are built.
-fn built_pack(text: &str) -> Option<Packs>
-    ensures some { IfSome result (λ packs. read_packs text.now ≡ Some packs) }
-    ensures built { IfSome result (λ packs. HasOnlyIAndN packs) }
-    ensures none { IsNone result → IsBuiltPack text.now → ⊥ }
-{
-    let packs = Packs::read(text)?;
-    if !is_built(packs) {
+    if words.len() != 2 {
         return None;
     }
-    Some(packs)
+    if is_word(words, 0, "check") {
+        return Some(Command::Check);
+    }
+    if is_word(words, 0, "terms") {
+        return Some(Command::Terms);
+    }
+    None
 }
 
-/// Reads the words of a command (docs/FORMATS.md, "Command words"). `Unbuilt` is refused exactly where the
-/// words are not `search BASIS --pack LETTERS --terms N` with the text of a basis and distinct letters of `in`,
-/// and `Opt(Terms)` exactly where they are, but N is no number from 0 to 200; else `Memory` where there is
-/// none.
-pub fn read_words(alloc: Global, words: &[String]) -> Result<Request, WordFault>
+/// Reads the words of a search.
+fn read_search(alloc: Global, words: &[String]) -> Result<Request, WordFault>
+    requires form { HasForm (map string_bytes words.now) }
     ensures ok { IfOk result (λ request. Reads (map string_bytes words.now) request) }
     ensures refused { IfErr result (λ fault. IsRefused (map string_bytes words.now) fault) }
 {
-    if !has_form(words) {
-        return Err(WordFault::Unbuilt);
-    }
-    let Some(packs) = built_pack(words[3].as_str()) else {
+    let Some(packs) = Packs::read(words[3].as_str()) else {
         return Err(WordFault::Unbuilt);
     };
     let basis = match read_basis(alloc, words[1].as_str()) {
@@ -165,4 +170,43 @@ pub fn read_words(alloc: Global, words: &[String]) -> Result<Request, WordFault>
         packs,
         number: 0,
     })
+}
+
+/// Reads the words of a command that reads a text.
+fn read_asking(alloc: Global, words: &[String], command: Command) -> Result<Request, WordFault>
+    requires form { HasTextForm (map string_bytes words.now) command }
+    ensures ok { IfOk result (λ request. Reads (map string_bytes words.now) request) }
+    ensures refused { IfErr result (λ fault. IsRefused (map string_bytes words.now) fault) }
+{
+    let basis = match read_basis(alloc, words[1].as_str()) {
+        Ok(basis) => basis,
+        Err(BasisFault::Memory) => return Err(WordFault::Memory),
+        Err(_) => return Err(WordFault::Unbuilt),
+    };
+    Ok(Request {
+        command,
+        basis: Sequence::of(basis),
+        workers: 1,
+        budget: DEFAULT_BUDGET,
+        terms: DEFAULT_TERM,
+        packs: ALL_LETTERS,
+        number: 0,
+    })
+}
+
+/// Reads the words of a command (docs/FORMATS.md, "Command words"). `Unbuilt` is refused exactly where the
+/// words are neither `search BASIS --pack LETTERS --terms N` with the text of a basis and distinct letters of
+/// `ircpfsn`, nor `check BASIS` or `terms BASIS` with the text of a basis; `Opt(Terms)` exactly where they are
+/// those of a search, but N is no number from 0 to 200; else `Memory` where there is none.
+pub fn read_words(alloc: Global, words: &[String]) -> Result<Request, WordFault>
+    ensures ok { IfOk result (λ request. Reads (map string_bytes words.now) request) }
+    ensures refused { IfErr result (λ fault. IsRefused (map string_bytes words.now) fault) }
+{
+    if has_form(words) {
+        return read_search(alloc, words);
+    }
+    let Some(command) = text_command(words) else {
+        return Err(WordFault::Unbuilt);
+    };
+    read_asking(alloc, words, command)
 }

@@ -1,4 +1,4 @@
-use Rattle.std.proofs.Common.{◌≡◌, List, ℕ, sym, ap, ◌∙◌, subst}
+use Rattle.std.proofs.Common.{◌≡◌, List, ℕ, ap, ◌∙◌, subst}
 use Rattle.std.specs.Prelude.{Option, IfSome}
 use Rattle.normal_form.specs.TraceLaws.{trace}
 use Rattle.tiling_core.specs.Roots.{root_of}
@@ -22,6 +22,7 @@ returns-in_default c =
     none_answer c.filed_specs_stand.ensures c.exhausted_is_beyond_the_pack.ensures.alone c.exhausted_is_beyond_the_pack.ensures.normal c.exhausted_is_beyond_the_pack.ensures.none c.exhausted_is_beyond_the_pack.ensures.found c.args.request.now c.requires.letter c.in_ok-root.field-0.root reduced
     c.in_ok-ledger.field-0.ledger c.in_ok-ledger.ensures.ledger alone (reason_as c.in_ok-ledger.field-0.reason) c.in_ok-text.text.items c.in_ok-ledger.ensures.reason unsettled
     (c.in_ok-text.ensures ∙ ap (λ (n : Counts). none_line (reason_as c.in_ok-ledger.field-0.reason) n) c.counts.ensures.answer)
+    _ _ _ c.of.ensures
 
 pub returns : goal.returns
 returns c =
@@ -32,5 +33,6 @@ returns c =
     let traced : c.as_slice.result.now ≡ trace (root_of c.args.request.now.basis) = c.as_slice.ensures.value ∙ c.in_ok-root.ensures.trace ∙ ap (λ (basis : List (List ℕ)). trace (root_of basis)) c.as_slice-basis.ensures in
     let terms = c.as_slice-2.ensures.value ∙ c.in_ok-terms.ensures.terms in
     found_answer c.filed_specs_stand.ensures c.exhausted_is_beyond_the_pack.ensures.alone c.exhausted_is_beyond_the_pack.ensures.normal c.exhausted_is_beyond_the_pack.ensures.none c.exhausted_is_beyond_the_pack.ensures.found c.args.request.now c.requires.letter c.in_ok-root.field-0.root reduced
-    c.in_ok-ledger.field-0.ledger c.in_ok-ledger.ensures.ledger alone c.in-Some.spec c.as_slice.result.now c.in_ok-text-2.text.items picked filed traced
+    c.in_ok-ledger.field-0.ledger c.in_ok-ledger.ensures.ledger alone c.specs_are_spelled.ensures.kept c.requires.basis c.requires.short c.in-Some.spec c.as_slice.result.now c.in_ok-text-2.text.items picked filed traced
     (c.in_ok-text-2.ensures ∙ (λ i. spec_text (c.as_slice-basis.ensures i) c.as_slice.result.now c.in-Some.spec (terms i)))
+    _ _ _ c.of-2.ensures
