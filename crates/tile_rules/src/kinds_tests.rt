@@ -1,3 +1,5 @@
+ghost use Rattle.std.specs.Prelude.{◌<◌, length};
+
 use crate::{Direction, Kind, Pointed, RawFault, raw_children};
 use gridded::{Cell, CellSet, Gridded, GriddedFault};
 use normal_form::normalise;
@@ -26,7 +28,10 @@ fn rising(alloc: Global, left: Cell, right: Cell) -> Result<Gridded, GriddedFaul
 }
 
 /// The set of one cell.
-fn only(cell: Cell) -> CellSet {
+fn only(cell: Cell) -> CellSet
+    requires left { cell.x < 8 }
+    requires low { cell.y < 8 }
+{
     CellSet::none().with(cell)
 }
 
@@ -87,23 +92,25 @@ fn a_column_is_cut_in_two(rt: HostRuntime) -> Result<(), Fail> {
     Ok(())
 }
 
-/// The 2x2 tiling without points in these cells.
-fn without(alloc: Global, cells: &[Cell]) -> Result<Tiling, Fail> {
-    let mut obstructions = Vec::new(alloc);
-    for cell in cells {
-        obstructions.push(dot(alloc, *cell)?)?;
-    }
+/// The 2x2 tiling with these obstructions.
+fn square(alloc: Global, obstructions: Vec<Gridded>) -> Result<Tiling, Fail>
+    requires { length obstructions.items < 268435456 }
+{
     Ok(Tiling::of(alloc, 2, 2, obstructions, Vec::new(alloc))?)
 }
 
 #[test]
 fn cells_that_share_no_line_are_factors(rt: HostRuntime) -> Result<(), Fail> {
     let alloc = rt.alloc();
-    let whole = without(alloc, &[CORNER, FAR])?;
+    let corner = dot(alloc, CORNER)?;
+    let far = dot(alloc, FAR)?;
+    let beside = dot(alloc, BESIDE)?;
+    let above = dot(alloc, ABOVE)?;
+    let whole = square(alloc, vec![in alloc; corner, far]?)?;
     let sets = vec![in alloc; only(ABOVE), only(BESIDE)]?;
     let factors = raw_children(alloc, &whole, &Kind::Factor(Sequence::of(sets)))?;
-    let left = without(alloc, &[CORNER, BESIDE, FAR])?;
-    let right = without(alloc, &[CORNER, ABOVE, FAR])?;
+    let left = square(alloc, vec![in alloc; corner, beside, far]?)?;
+    let right = square(alloc, vec![in alloc; corner, above, far]?)?;
     assert_eq!(rt; factors, vec![in alloc; left, right]?);
     Ok(())
 }

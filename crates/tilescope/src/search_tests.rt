@@ -80,37 +80,104 @@ fn ends_with(bytes: &[u8], text: &str) -> bool {
     }
 }
 
-/// Runs a command line, and looks how what it writes ends.
-fn expect_end(rt: &impl Abort, alloc: Global, line: &str, text: &str) -> Result<(), Fail> {
+/// What a command line writes, which ends with status 0.
+fn written(
+    rt: &impl Abort,
+    alloc: Global,
+    line: &str,
+    source: &mut SteadySource,
+) -> Result<SteadySink, Fail> {
     let words = words(alloc, line)?;
-    let mut source = SteadySource::new(Vec::new(alloc));
     let mut sink = SteadySink::new(alloc);
-    let ended = run_plain(alloc, words.as_slice(), &mut source, &mut sink);
+    let ended = run_plain(alloc, words.as_slice(), source, &mut sink);
     assert_eq!(rt; ended.status, 0, "at {line}");
-    assert!(rt; ends_with(sink.held().ok_or("lost")?, text), "at {line}");
-    Ok(())
+    Ok(sink)
 }
 
 #[test]
 fn searches_end_with_their_counts(rt: HostRuntime) -> Result<(), Fail> {
     let alloc = rt.alloc();
     let rows = [
-        ("search 132 --pack rsf --terms 6", CATALAN),
-        ("search 021 --pack rsf --terms 6", CATALAN),
         ("search 132 --pack rsf --terms 200", CATALAN_TO_200),
         ("search 12 --pack rf --terms 200", ONES),
         (
             "search 123_132 --pack rsf --terms 5",
             "terms 1 1 2 4 8 16\nend\n",
         ),
-        ("search 12,21 --pack r --terms 3", "terms 1 1 0 0\nend\n"),
         (
             "search 132 --pack ircpfsn --terms 10",
             "terms 1 1 2 5 14 42 132 429 1430 4862 16796\nend\n",
         ),
     ];
     for (line, text) in rows {
-        expect_end(&rt, alloc, line, text)?;
+        let mut source = SteadySource::new(Vec::new(alloc));
+        let sink = written(&rt, alloc, line, &mut source)?;
+        assert!(rt; ends_with(sink.held().ok_or("lost")?, text), "at {line}");
+    }
+    Ok(())
+}
+
+#[test]
+fn avoiders_of_132_are_specified(rt: HostRuntime) -> Result<(), Fail> {
+    let alloc = rt.alloc();
+    let lines = [
+        "search 132 --pack rsf --terms 6",
+        "search 021 --pack rsf --terms 6",
+    ];
+    for line in lines {
+        let mut source = SteadySource::new(Vec::new(alloc));
+        let sink = written(&rt, alloc, line, &mut source)?;
+        assert_eq!(rt; sink.held().ok_or("lost")?, CATALAN.as_bytes(), "at {line}");
+    }
+    Ok(())
+}
+
+/// Whether some text stands in bytes.
+fn has(bytes: &[u8], text: &str) -> bool {
+    bytes
+        .windows(text.len())
+        .any(|window| window == text.as_bytes())
+}
+
+#[test]
+fn what_is_found_is_accepted(rt: HostRuntime) -> Result<(), Fail> {
+    let alloc = rt.alloc();
+    let rows = [
+        (
+            "search 12,21 --pack r --terms 3",
+            "\nentries 3\n",
+            "\nrule place N 0:00^0\n",
+            "check 12,21",
+            "accepted 3 4\n",
+        ),
+        (
+            "search 12 --pack rf --terms 200",
+            "\nentries 4\n",
+            "\nbasis 01\n",
+            "check 12",
+            "accepted 4 201\n",
+        ),
+        (
+            "search 123_132 --pack rsf --terms 5",
+            "\nbasis 012,021\n",
+            "\nrule place N 0:00^0\n",
+            "terms 132,123",
+            "terms 1 1 2 4 8 16\n",
+        ),
+    ];
+    for (line, first, second, check, verdict) in rows {
+        let mut source = SteadySource::new(Vec::new(alloc));
+        let sink = written(&rt, alloc, line, &mut source)?;
+        let text = sink.held().ok_or("lost")?;
+        assert!(rt; has(text, first), "at {line}");
+        assert!(rt; has(text, second), "at {line}");
+        let mut again = SteadySource::new(Vec::from_slice(alloc, text)?);
+        let answer = written(&rt, alloc, check, &mut again)?;
+        assert_eq!(rt;
+            answer.held().ok_or("lost")?,
+            verdict.as_bytes(),
+            "at {line}"
+        );
     }
     Ok(())
 }
