@@ -132,11 +132,13 @@ fn avoiders_of_132_are_specified(rt: HostRuntime) -> Result<(), Fail> {
     Ok(())
 }
 
-/// Whether some text stands in bytes.
+/// Whether some text, which is not empty, stands in bytes.
 fn has(bytes: &[u8], text: &str) -> bool {
-    bytes
-        .windows(text.len())
-        .any(|window| window == text.as_bytes())
+    let text = text.as_bytes();
+    if text.is_empty() {
+        return false;
+    }
+    bytes.windows(text.len()).any(|window| window == text)
 }
 
 #[test]
