@@ -4,7 +4,7 @@ use crate::by_pack::ByPack;
 use crate::root::{Reduced, reduce_root};
 use crate::run::run_plain;
 use crate::tests::words;
-use css_crew::solve_alone;
+use css_crew::{Reason, solve_alone};
 use css_ledger::Counts;
 use outside::{MemSink, SteadySink, SteadySource};
 use perm_core::read_basis;
@@ -199,9 +199,9 @@ fn a_later_write_fails(rt: HostRuntime) -> Result<(), Fail> {
     Ok(())
 }
 
-/// How much a search by a pack expands, finds and files, of at most so many classes.
+/// Why a search by a pack ends, of at most so many classes, and how much it expands, finds and files.
 #[tactic(auto, using(crate::proofs::Bases::naming))]
-fn counts_of(alloc: Global, basis: &str, letters: &str, budget: u32) -> Result<Counts, Fail>
+fn outcome(alloc: Global, basis: &str, letters: &str, budget: u32) -> Result<(Reason, Counts), Fail>
     requires some { 1 ≤ budget }
     requires few { budget ≤ 5000 }
 {
@@ -211,7 +211,7 @@ fn counts_of(alloc: Global, basis: &str, letters: &str, budget: u32) -> Result<C
     let packs = Packs::read(letters).ok_or("no pack")?;
     let Reduced { root, trace: _ } = reduce_root(alloc, basis.as_slice())?;
     let solved = solve_alone(alloc, root, budget, &ByPack::of(packs))?;
-    Ok(solved.ledger.counts())
+    Ok((solved.reason, solved.ledger.counts()))
 }
 
 /// The numbers of expanded classes, of classes and of rules.
@@ -226,10 +226,29 @@ fn numbers(expanded: u32, classes: u32, rules: u32) -> Counts {
 #[test]
 fn few_classes_are_expanded(rt: HostRuntime) -> Result<(), Fail> {
     let alloc = rt.alloc();
-    assert_eq!(rt; counts_of(alloc, "132", "rsf", 1)?, numbers(1, 4, 2));
-    assert_eq!(rt; counts_of(alloc, "132", "rsf", 7)?, numbers(7, 11, 9));
-    assert_eq!(rt; counts_of(alloc, "132", "rsf", 8)?, numbers(8, 11, 10));
-    assert_eq!(rt; counts_of(alloc, "132", "f", 500)?, numbers(1, 1, 0));
-    assert_eq!(rt; counts_of(alloc, "12", "rf", 4)?, numbers(4, 5, 5));
+    let (reason, counts) = outcome(alloc, "132", "rsf", 1)?;
+    assert_eq!(rt; reason, Reason::Budget);
+    assert_eq!(rt; counts, numbers(1, 4, 2));
+    let (reason, counts) = outcome(alloc, "132", "rsf", 7)?;
+    assert_eq!(rt; reason, Reason::Budget);
+    assert_eq!(rt; counts, numbers(7, 11, 9));
+    let (reason, counts) = outcome(alloc, "132", "rsf", 8)?;
+    assert_eq!(rt; reason, Reason::Found);
+    assert_eq!(rt; counts, numbers(8, 11, 10));
+    Ok(())
+}
+
+#[test]
+fn searches_end_for_their_reasons(rt: HostRuntime) -> Result<(), Fail> {
+    let alloc = rt.alloc();
+    let (reason, counts) = outcome(alloc, "132", "f", 500)?;
+    assert_eq!(rt; reason, Reason::Exhausted);
+    assert_eq!(rt; counts, numbers(1, 1, 0));
+    let (reason, counts) = outcome(alloc, "12", "rf", 4)?;
+    assert_eq!(rt; reason, Reason::Budget);
+    assert_eq!(rt; counts, numbers(4, 5, 5));
+    let (reason, counts) = outcome(alloc, "12", "rf", 5)?;
+    assert_eq!(rt; reason, Reason::Found);
+    assert_eq!(rt; counts.expanded, 5);
     Ok(())
 }

@@ -70,6 +70,7 @@ fn texts_are_refused(rt: HostRuntime) -> Result<(), Fail> {
             "rejected limit 6\n",
         ),
         ("check 12", UNIT, "", "", "rejected basis\n"),
+        ("check 123", CATALAN, "", "", "rejected basis\n"),
         ("check 1", UNIT, "grid 0 0", "grid 1 0", "rejected root\n"),
         (
             "check 1",
@@ -110,6 +111,44 @@ fn texts_are_refused(rt: HostRuntime) -> Result<(), Fail> {
     for (line, text, old, new, written) in rows {
         let text = changed(alloc, text, old, new)?;
         expect(&rt, alloc, line, text, 3, written)?;
+    }
+    Ok(())
+}
+
+/// What is said of a text that breaks off in one of its first eleven lines.
+const BROKEN_OFF: [&str; 11] = [
+    "rejected grammar 1\n",
+    "rejected grammar 2\n",
+    "rejected grammar 3\n",
+    "rejected grammar 4\n",
+    "rejected grammar 5\n",
+    "rejected grammar 6\n",
+    "rejected grammar 7\n",
+    "rejected grammar 8\n",
+    "rejected grammar 9\n",
+    "rejected grammar 10\n",
+    "rejected grammar 11\n",
+];
+
+#[test]
+fn each_front_of_a_text_is_refused(rt: HostRuntime) -> Result<(), Fail> {
+    let alloc = rt.alloc();
+    let mut front = Vec::new(alloc);
+    let mut lines = 0;
+    for byte in UNIT.as_bytes() {
+        let said = BROKEN_OFF.get(lines).ok_or("more lines")?;
+        expect(
+            &rt,
+            alloc,
+            "check 1",
+            Vec::from_slice(alloc, &front)?,
+            3,
+            *said,
+        )?;
+        front.push(*byte)?;
+        if *byte == b'\n' {
+            lines += 1;
+        }
     }
     Ok(())
 }
@@ -175,6 +214,7 @@ fn expect_read(
 fn a_read_fails(rt: HostRuntime) -> Result<(), Fail> {
     let alloc = rt.alloc();
     expect_read(&rt, alloc, 0, 4, "")?;
+    expect_read(&rt, alloc, 2, 4, "")?;
     expect_read(&rt, alloc, 7, 4, "")?;
     expect_read(&rt, alloc, 8, 0, "accepted 1 4\n")
 }
