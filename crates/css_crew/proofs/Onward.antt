@@ -1,24 +1,26 @@
 -- One more filing leads on, and at the end the ledger is that of one worker.
 use Rattle.std.proofs.Common.{◌≡◌, ℕ, suc, ◌+◌, ◌<◌, ◌≤◌, Bool, true, false, List, [], ◌∷◌, ◌++◌, length, take, length-append, refl, sym, ap, subst, ◌∙◌, inl, inr, ⊎_elim, arith}
-use Rattle.std.specs.Prelude.{flat_map, slice_get, Option, Some, None, IsNone, sum_by}
+use Rattle.std.specs.Prelude.{flat_map, slice_get, Option, Some, None, IsNone, Result, Ok, Err, IfOk, sum_by}
 use Rattle.std.specs.List.{range_with_len}
-use Rattle.std.proofs.lemmas.List.{map-append}
-use Rattle.std.proofs.lemmas.Option.{slice_get_within}
-use Rattle.lists.proofs.Members.{none_in, IsIn-append_cases, IsIn-map, only_in}
+use Rattle.std.proofs.lemmas.List.{map-append, length-map, length-take}
+use Rattle.lists.proofs.Members.{none_in}
 use Rattle.lists.proofs.Numbers.{less_or_whole}
 use Rattle.lists.proofs.Added.{grows}
-use Rattle.lists.proofs.Places.{get_left, take_whole}
+use Rattle.lists.proofs.Places.{take_whole}
 use Rattle.lists.proofs.Ranges.{range_more, NoRepeats-range_with_len}
-use Rattle.lists.specs.Members.{IsIn, NoRepeats}
+use Rattle.lists.specs.Members.{NoRepeats}
+use Rattle.css_domain.specs.declared.record.Record.{Record}
 use Rattle.css_domain.specs.Meanings.{Meaning}
-use Rattle.css_domain.specs.Ledgers.{Books, filings, classes, done, after_filings, with_filing, without, new_books}
+use Rattle.css_domain.specs.Ledgers.{Books, filings, classes, record_of, records, done, after_filings, with_filing, without, new_books}
 use Rattle.css_domain.specs.LedgerFacts.{IsLedger}
 use Rattle.css_domain.specs.Reasons.{AreFilingsComplete, RootStands, Stops, EndsFor, Alone}
-use Rattle.css_domain.proofs.Filings.{filings_more, classes_more, before_more, rules_of_filings, length-filings, firsts}
-use Rattle.css_domain.proofs.Classes.{done_within}
+use Rattle.css_domain.proofs.Filings.{before_more, rules_of_filings, length-filings}
 use Rattle.css_crew.specs.declared.reason.Reason.{Reason as Answer}
 use Rattle.css_crew.specs.declared.reason.Reason.TheVariants.{Found as IsFound, Budget as IsBudget, Exhausted as IsExhausted}
 use Rattle.css_crew.specs.Ways.{IsOnTheWay, IsNext, FilesNone, Goes, reason_as}
+use Rattle.css_crew.specs.Crews.{GoesOn}
+use Rattle.css_crew.proofs.Completes.{complete_more}
+use Rattle.css_crew.proofs.Turns.{claimed_next, claimed_fresh}
 
 pub both : {b : Bool} → b ≡ false → b ≡ true → ⊥
 both e f = cc
@@ -28,10 +30,12 @@ pub none_from : {X : Type 0} (o : Option X) → ((x : X) → o ≡ Some x → �
 none_from None never = refl
 none_from (Some x) never = absurd (never x refl)
 
-pair_of : {X Y : Type 0} (x y : X × Y) → x ≡ y → (x.0 ≡ y.0) × (x.1 ≡ y.1)
-pair_of x y e = (ap (λ p. p.0) e, ap (λ p. p.1) e)
-
 module _ {C R : Type 0} (D : Meaning C R) where
+  -- where the records of a ledger begin those of a later one, it has no more rules
+  pub rules_begin : (old new : Books C R) {n : ℕ} → n ≡ length old.rules → take (length old.rules) (records D new) ≡ records D old → n ≤ length new.rules
+  rules_begin old new many begin =
+      omega (arith, many, ap (λ (rs : List Record). length rs) begin, length-take (length old.rules) (records D new), length-map old.rules (record_of D (classes D old)), length-map new.rules (record_of D (classes D new)))
+
   pub begun : (root : C) (budget rulebook : ℕ) → IsOnTheWay D root budget rulebook (new_books root budget rulebook)
   begun root budget rulebook =
       record {
@@ -108,28 +112,10 @@ module _ {C R : Type 0} (D : Meaning C R) where
           let z : 0 + length l.journal ≡ length l.journal = omega arith in
           done_more ∙ ap (λ xs. xs ++ length l.journal ∷ []) way.in_turn ∙ ap (λ k. range_with_len 0 (length l.journal) ++ k ∷ []) (sym z) ∙ sym (range_more 0 (length l.journal)) ∙ ap (range_with_len 0) (sym long)
 
-      left : (m : ℕ) (c : C) → m < length (classes D l) → slice_get (classes D (with_filing l (length l.journal) next.rules)) m ≡ Some c → slice_get (classes D l) m ≡ Some c
-      left m c h e =
-          let g = grows D.same (classes D l) (flat_map D.children next.rules) in
-          sym (get_left (classes D l) g.0 m h) ∙ ap (λ cs. slice_get cs m) (sym (classes_more D l (length l.journal) next.rules is.all_rules ∙ g.1)) ∙ e
-
-      complete_more : AreFilingsComplete D (with_filing l (length l.journal) next.rules)
-      complete_more =
-          record {
-            once = subst NoRepeats (sym turn) (NoRepeats-range_with_len 0 (length (l.journal ++ (length l.journal, length next.rules) ∷ [])));
-            complete = λ m rules c i e.
-                ⊎_elim {C = D.complete l.rulebook c rules}
-                (λ j.
-                let first : IsIn m (done l) = subst (λ xs. IsIn m xs) (firsts l.rules l.journal) (IsIn-map (λ (f : ℕ × List R). f.0) j) in
-                way.complete.complete m rules c j (left m c (done_within D l is m first) e))
-                (λ j.
-                let p = pair_of (m, rules) (length l.journal, next.rules) (only_in j) in
-                let small = slice_get_within (classes D l) (length l.journal) next.class next.at in
-                let at = left (length l.journal) c small (ap (slice_get (classes D (with_filing l (length l.journal) next.rules))) (sym p.0) ∙ e) in
-                let same : next.class ≡ c = (let a = next.at in cc) in
-                subst (λ d. D.complete l.rulebook d rules) same (subst (λ rs. D.complete l.rulebook next.class rs) (sym p.1) next.expansion.whole))
-                (IsIn-append_cases (filings l.rules l.journal) ((length l.journal, next.rules) ∷ []) (subst (λ fs. IsIn (m, rules) fs) (filings_more l.rules next.rules l.journal (length l.journal) is.all_rules) i));
-          }
+      complete_next : AreFilingsComplete D (with_filing l (length l.journal) next.rules)
+      complete_next =
+          complete_more D l is way.complete (length l.journal) next.rules next.class next.at next.expansion.whole
+          (subst NoRepeats (sym turn) (NoRepeats-range_with_len 0 (length (l.journal ++ (length l.journal, length next.rules) ∷ []))))
 
       before : (k : ℕ) → k < length (l.journal ++ (length l.journal, length next.rules) ∷ []) → Stops D (after_filings D k (with_filing l (length l.journal) next.rules)) → ⊥
       before k h s =
@@ -147,9 +133,29 @@ module _ {C R : Type 0} (D : Meaning C R) where
             of_rulebook = way.of_rulebook;
             none_out = ap (without (length l.journal)) way.none_out;
             in_turn = turn;
-            complete = complete_more;
+            complete = complete_next;
             not_before = before;
           })
 
       pub longer : length new.journal ≡ suc (length l.journal)
       longer = ap (λ (b : Books C R). length b.journal) next.filed ∙ long
+
+  -- the filing of the least fresh class is the next in its turn
+  in_its_turn : (l new : Books C R) → l.out ≡ [] → done l ≡ range_with_len 0 (length l.journal) → (o : Option Answer) → GoesOn D l new o → Goes D l new o
+  in_its_turn l new none_out by_turn None m =
+      let k = claimed_next D l none_out by_turn m.number m.next in
+      let f = claimed_fresh D l none_out m.number m.next in
+      record {
+        rules = m.rules;
+        filed = subst (λ (n : ℕ). new ≡ with_filing l n m.rules) k m.filed;
+        open_yet = f.2;
+        room = f.3;
+        class = m.class;
+        at = subst (λ (n : ℕ). slice_get (classes D l) n ≡ Some m.class) k m.at;
+        expansion = m.expansion;
+      }
+  in_its_turn l new none_out by_turn (Some answer) m = m
+
+  pub in_turn : {E : Type 0} (l new : Books C R) → l.out ≡ [] → done l ≡ range_with_len 0 (length l.journal) → (r : Result (Option Answer) E) → IfOk r (λ o. GoesOn D l new o) → IfOk r (λ o. Goes D l new o)
+  in_turn l new none_out by_turn (Ok o) goes = in_its_turn l new none_out by_turn o goes
+  in_turn l new none_out by_turn (Err e) goes = tt

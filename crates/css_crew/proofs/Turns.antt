@@ -57,44 +57,24 @@ by_spent true b w never e = absurd cc
 by_spent false true w never e = (refl, refl)
 by_spent false false w never e = absurd (never (sym e))
 
-module _ {C R : Type 0} (D : Meaning C R) (l : Books C R) (out : l.out ≡ []) (turn : done l ≡ range_with_len 0 (length l.journal)) where
-  among_range : (n : ℕ) → (is_among n (done l) ≡ true → n < length l.journal) × (n < length l.journal → is_among n (done l) ≡ true)
-  among_range n = (
-    λ e. let i = IsIn-range_with_len 0 (length l.journal) n (subst (λ xs. IsIn n xs) turn (in_from_among n (done l) e)) in omega (arith, i.1),
-    λ h. among_from_in n (done l) (subst (λ xs. IsIn n xs) (sym turn) (in_range_with_len 0 (length l.journal) n (omega arith) (omega (arith, h)))),
-  )
+negated : (b : Bool) → not b ≡ true → b ≡ false
+negated false e = refl
+negated true e = absurd cc
 
+module _ {C R : Type 0} (D : Meaning C R) (l : Books C R) (out : l.out ≡ []) where
   not_out : (n : ℕ) → not (is_among n l.out) ≡ true
   not_out n = rw out refl
 
   as_many : length (done l) ≡ length l.journal
   as_many = length-map l.journal (λ (p : ℕ × ℕ). p.0)
 
-  pub claimed_work : (n : ℕ) → Work n ≡ claimed D l → (n ≡ length l.journal) × (n < length (classes D l)) × (is_all_done D l ≡ true → ⊥) × (length (done l) ≡ l.budget → ⊥)
-  claimed_work n e =
+  -- what is claimed is no done class, and there is a reason for none
+  pub claimed_fresh : (n : ℕ) → Work n ≡ claimed D l → (n < length (classes D l)) × (is_among n (done l) ≡ false) × (is_all_done D l ≡ true → ⊥) × (length (done l) ≡ l.budget → ⊥)
+  claimed_fresh n e =
       let w = by_work (is_all_done D l) (length l.out + length l.journal == l.budget) (work (fresh D l)) n e in
       let f = first_work (λ i. not (is_among i (done l)) && not (is_among i l.out)) 0 (length (classes D l)) n w.2 in
       let passes = and_parts (not (is_among n (done l))) (not (is_among n l.out)) f.2 in
-      let past = not_below n passes.0 in
-      let first = not_above n f.3 in
-      (omega (arith, past, first), omega (arith, f.1), λ t. absurd (let a = w.0 in cc), λ s. absurd (let b = w.1 in let k = eq-eqb (length l.out + length l.journal) l.budget (omega (arith, s, as_many, ap length out)) in cc))
-    where
-      not_below : (n : ℕ) → not (is_among n (done l)) ≡ true → length l.journal ≤ n
-      not_below n e = ⊎_elim {C = length l.journal ≤ n} (λ less. absurd (let t = (among_range n).1 less in let g : not (is_among n (done l)) ≡ false = rw t refl in cc)) (λ p. p) (cases_lt n (length l.journal))
-
-      not_above : (n : ℕ) → ((i : ℕ) → 0 ≤ i → i < n → (not (is_among i (done l)) && not (is_among i l.out)) ≡ false) → n ≤ length l.journal
-      not_above n f =
-          ⊎_elim {C = n ≤ length l.journal}
-          (λ less.
-          absurd (let g = f (length l.journal) (omega arith) less in
-          let h : not (is_among (length l.journal) (done l)) ≡ true = free (is_among (length l.journal) (done l)) refl in
-          let b = and_from (not (is_among (length l.journal) (done l))) (not (is_among (length l.journal) l.out)) h (not_out (length l.journal)) in cc))
-          (λ p. p)
-          (cases_lt (length l.journal) n)
-        where
-          free : (b : Bool) → is_among (length l.journal) (done l) ≡ b → not b ≡ true
-          free false e = refl
-          free true e = absurd (let x = (among_range (length l.journal)).0 e in omega (arith, x))
+      (omega (arith, f.1), negated (is_among n (done l)) passes.0, λ t. absurd (let a = w.0 in cc), λ s. absurd (let b = w.1 in let k = eq-eqb (length l.out + length l.journal) l.budget (omega (arith, s, as_many, ap length out)) in cc))
 
   pub claimed_finished : Finished ≡ claimed D l → is_all_done D l ≡ true
   claimed_finished e = by_finished (is_all_done D l) (length l.out + length l.journal == l.budget) (work (fresh D l)) (work_only (fresh D l)).0 e
@@ -123,3 +103,37 @@ module _ {C R : Type 0} (D : Meaning C R) (l : Books C R) (out : l.out ≡ []) (
 
   pub claimed_out : (n : ℕ) → IsIn n (with_work l (Work n)).out
   claimed_out n = subst (λ xs. IsIn n xs) (sym (ap (insert_new nat_cmp n) out)) here
+
+  module _ (turn : done l ≡ range_with_len 0 (length l.journal)) where
+    among_range : (n : ℕ) → (is_among n (done l) ≡ true → n < length l.journal) × (n < length l.journal → is_among n (done l) ≡ true)
+    among_range n = (
+      λ e. let i = IsIn-range_with_len 0 (length l.journal) n (subst (λ xs. IsIn n xs) turn (in_from_among n (done l) e)) in omega (arith, i.1),
+      λ h. among_from_in n (done l) (subst (λ xs. IsIn n xs) (sym turn) (in_range_with_len 0 (length l.journal) n (omega arith) (omega (arith, h)))),
+    )
+
+    -- what is claimed is the next class in turn
+    pub claimed_next : (n : ℕ) → Work n ≡ claimed D l → n ≡ length l.journal
+    claimed_next n e =
+        let w = by_work (is_all_done D l) (length l.out + length l.journal == l.budget) (work (fresh D l)) n e in
+        let f = first_work (λ i. not (is_among i (done l)) && not (is_among i l.out)) 0 (length (classes D l)) n w.2 in
+        let passes = and_parts (not (is_among n (done l))) (not (is_among n l.out)) f.2 in
+        let past = not_below n passes.0 in
+        let first = not_above n f.3 in
+        omega (arith, past, first)
+      where
+        not_below : (n : ℕ) → not (is_among n (done l)) ≡ true → length l.journal ≤ n
+        not_below n e = ⊎_elim {C = length l.journal ≤ n} (λ less. absurd (let t = (among_range n).1 less in let g : not (is_among n (done l)) ≡ false = rw t refl in cc)) (λ p. p) (cases_lt n (length l.journal))
+
+        not_above : (n : ℕ) → ((i : ℕ) → 0 ≤ i → i < n → (not (is_among i (done l)) && not (is_among i l.out)) ≡ false) → n ≤ length l.journal
+        not_above n f =
+            ⊎_elim {C = n ≤ length l.journal}
+            (λ less.
+            absurd (let g = f (length l.journal) (omega arith) less in
+            let h : not (is_among (length l.journal) (done l)) ≡ true = free (is_among (length l.journal) (done l)) refl in
+            let b = and_from (not (is_among (length l.journal) (done l))) (not (is_among (length l.journal) l.out)) h (not_out (length l.journal)) in cc))
+            (λ p. p)
+            (cases_lt (length l.journal) n)
+          where
+            free : (b : Bool) → is_among (length l.journal) (done l) ≡ b → not b ≡ true
+            free false e = refl
+            free true e = absurd (let x = (among_range (length l.journal)).0 e in omega (arith, x))

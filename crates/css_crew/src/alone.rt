@@ -1,4 +1,4 @@
-ghost use Rattle.std.specs.Prelude.{◌≡◌, ◌≤◌, [], length, take, IfOk, IfSome, IsNone, IsTrue};
+ghost use Rattle.std.specs.Prelude.{◌≡◌, ◌≤◌, [], length, take, OnOk, IfOk, IfSome, IsNone, IsTrue};
 ghost use Rattle.std.specs.List.{range_with_len};
 ghost use Rattle.css_domain.specs.Ledgers.{classes, records, done};
 ghost use Rattle.css_domain.specs.LedgerFacts.{IsLedger};
@@ -6,31 +6,58 @@ ghost use Rattle.css_domain.specs.Reasons.{Alone, EndsFor, RootStands};
 ghost use Rattle.css_prune.specs.Pruning.{IsPruned};
 ghost use Rattle.css_domain.specs.FiledSpecs.{IsFiledSpec};
 ghost use Rattle.css_crew.specs.Ways.{Goes, GoesWith, reason_as};
+ghost use Rattle.css_crew.specs.Crews.{IsFilled};
 
 use crate::expander::Expander;
+use crate::next::file_fresh;
 use crate::reason::Reason;
 use crate::waiting::all_wait;
 use css_domain::Domain;
-use css_ledger::{Claimed, Ledger};
-use css_prune::{Pruned, Spec, extract, prune};
+use css_ledger::Ledger;
+use css_prune::{Pruned, Pruner, Spec, extract};
 use std::alloc::{AllocError, Global};
 
-/// Which classes stand among the records of a ledger, with their ranks and picks.
-fn standing<D: Domain>(alloc: Global, ledger: &Ledger<D>) -> Result<Pruned, AllocError>
+/// Which classes stand among the records of a ledger, which were all pushed, with their ranks and picks.
+pub(crate) fn standing<D: Domain>(
+    alloc: Global,
+    ledger: &Ledger<D>,
+    pruner: &Pruner,
+) -> Result<Pruned, AllocError>
+    requires pushed { pruner.now ≡ records D.meaning ledger.now }
     ensures ledger { IsLedger D.meaning ledger.now }
     ensures pruned { IfOk result (λ pruned. IsPruned (records D.meaning ledger.now) (length (classes D.meaning ledger.now)) pruned) }
 {
     let classes = ledger.counts().classes;
-    let records = ledger.records(alloc)?;
-    prune(alloc, records.as_slice(), classes)
+    pruner.prune(alloc, classes)
+}
+
+/// Pushes the records of a ledger from a position on; those before are there.
+pub(crate) fn push_from<D: Domain>(
+    alloc: Global,
+    ledger: &Ledger<D>,
+    pruner: &mut Pruner,
+    from: u32,
+) -> Result<(), AllocError>
+    requires before { pruner.old ≡ take from (records D.meaning ledger.now) }
+    requires from { from ≤ length ledger.now.rules }
+    ensures { OnOk result (pruner.new ≡ records D.meaning ledger.now) }
+{
+    let end = ledger.counts().rules;
+    for position in from..end {
+        let item = ledger.record_at(alloc, position)?;
+        pruner.push(&item)?;
+    }
+    Ok(())
 }
 
 /// What stands, where the root does. It is looked for only where it isn't known that the root doesn't stand.
-fn found<D: Domain>(
+pub(crate) fn found<D: Domain>(
     alloc: Global,
     ledger: &Ledger<D>,
+    pruner: &Pruner,
     waits: bool,
 ) -> Result<Option<Pruned>, AllocError>
+    requires pushed { pruner.now ≡ records D.meaning ledger.now }
     requires known { IsTrue waits → RootStands D.meaning ledger.now → ⊥ }
     ensures ledger { IsLedger D.meaning ledger.now }
     ensures pruned { IfOk result (λ found. IfSome found (λ pruned. IsPruned (records D.meaning ledger.now) (length (classes D.meaning ledger.now)) pruned)) }
@@ -41,13 +68,13 @@ fn found<D: Domain>(
     if waits {
         return Ok(None);
     }
-    let pruned = standing(alloc, ledger)?;
+    let pruned = standing(alloc, ledger, pruner)?;
     let stands = pruned.keep.as_slice()[0];
     if stands { Ok(Some(pruned)) } else { Ok(None) }
 }
 
-/// Files the least fresh class, where none is out. Answers why none is filed, where none is; then the ledger is
-/// as before. The refusal is want of memory.
+/// Files the next class in turn. Answers why none is filed, where none is; then the ledger is as before. The refusal
+/// is want of memory.
 fn file_next<D: Domain, E: Expander<D>>(
     alloc: Global,
     ledger: &mut Ledger<D>,
@@ -59,30 +86,15 @@ fn file_next<D: Domain, E: Expander<D>>(
     ensures goes { IfOk result (λ end. Goes D.meaning ledger.old ledger.new end) }
     ensures records { IfOk result (λ end. IsNone end → take (length ledger.old.rules) (records D.meaning ledger.new) ≡ records D.meaning ledger.old) }
 {
-    match ledger.claim() {
-        Claimed::Work(pack) => {
-            let Ok(filing) = expander.expand(alloc, ledger.class(pack.number())) else {
-                ledger.give_back(pack);
-                return Err(AllocError);
-            };
-            let Err((pack, _)) = ledger.file(pack, filing) else {
-                return Ok(None);
-            };
-            ledger.give_back(pack);
-            Err(AllocError)
-        }
-        Claimed::Spent => Ok(Some(Reason::Budget)),
-        Claimed::Idle => Ok(Some(Reason::Exhausted)),
-        Claimed::Finished => Ok(Some(Reason::Exhausted)),
-    }
+    file_fresh(alloc, ledger, expander)
 }
 
-/// The ledger that one worker fills, what stands among its records, and why it ends.
+/// A ledger that is filled, what stands among its records, and why it ends.
 #[derive(Drop)]
-struct Searched<D: Domain> {
-    ledger: Ledger<D>,
-    pruned: Pruned,
-    reason: Reason,
+pub(crate) struct Searched<D: Domain> {
+    pub(crate) ledger: Ledger<D>,
+    pub(crate) pruned: Pruned,
+    pub(crate) reason: Reason,
 }
 
 /// Fills a ledger class by class until the root stands, all classes are done or the budget is spent. It prunes after
@@ -102,9 +114,10 @@ fn search<D: Domain, E: Expander<D>>(
     ensures pruned { IfOk result (λ searched. IsPruned (records D.meaning searched.ledger) (length (classes D.meaning searched.ledger)) searched.pruned) }
 {
     let mut ledger = Ledger::new(alloc, root, budget, expander.rulebook())?;
+    let mut pruner = Pruner::new(alloc)?;
     let mut waits = false;
     loop {
-        if let Some(pruned) = found(alloc, &ledger, waits)? {
+        if let Some(pruned) = found(alloc, &ledger, &pruner, waits)? {
             return Ok(Searched {
                 ledger,
                 pruned,
@@ -113,13 +126,14 @@ fn search<D: Domain, E: Expander<D>>(
         }
         let rules = ledger.counts().rules;
         if let Some(reason) = file_next(alloc, &mut ledger, expander)? {
-            let pruned = standing(alloc, &ledger)?;
+            let pruned = standing(alloc, &ledger, &pruner)?;
             return Ok(Searched {
                 ledger,
                 pruned,
                 reason,
             });
         }
+        push_from(alloc, &ledger, &mut pruner, rules)?;
         waits = all_wait(&ledger, rules);
     }
 }
@@ -133,7 +147,7 @@ pub struct Solved<D: Domain> {
 }
 
 /// The specification of a ledger's picks, where it ends since its root stands.
-fn spec_where_found<D: Domain>(
+pub(crate) fn spec_where_found<D: Domain>(
     alloc: Global,
     ledger: &Ledger<D>,
     pruned: &Pruned,
@@ -168,6 +182,7 @@ pub fn solve_alone<D: Domain, E: Expander<D>>(
     requires some { 1 ≤ budget }
     requires few { budget ≤ 5000 }
     ensures alone { IfOk result (λ solved. Alone D.meaning root budget (E.rulebook_of expander.now) solved.ledger) }
+    ensures filled { IfOk result (λ solved. IsFilled D.meaning root budget (E.rulebook_of expander.now) solved.ledger) }
     ensures ledger { IfOk result (λ solved. IsLedger D.meaning solved.ledger) }
     ensures reason { IfOk result (λ solved. EndsFor D.meaning solved.ledger (reason_as solved.reason)) }
     ensures spec { IfOk result (λ solved. GoesWith D.meaning solved.ledger solved.spec) }

@@ -12,10 +12,10 @@ use std::alloc::{AllocError, Global};
 use std::test::Fail;
 
 /// Numbers without members. A rule makes a number from two, whose lengths don't matter to it.
-struct Numbers;
+pub(crate) struct Numbers;
 
 #[derive(Drop)]
-struct Pair {
+pub(crate) struct Pair {
     parent: u32,
     first: u32,
     second: u32,
@@ -78,7 +78,7 @@ impl Domain for Numbers {
 }
 
 /// What each number is made from: 7 from 10 and 20, and from 30 twice; 10 and 20 from themselves; 40 from 30.
-fn pairs_of(class: u32) -> &'static [(u32, u32)]
+pub(crate) fn pairs_of(class: u32) -> &'static [(u32, u32)]
     ensures { length result.now ≤ 4 }
 {
     match class {
@@ -91,7 +91,7 @@ fn pairs_of(class: u32) -> &'static [(u32, u32)]
 }
 
 /// The filing of a number that makes it from each of the pairs, for the rulebook 3.
-fn filing_of(
+pub(crate) fn filing_of(
     alloc: Global,
     parent: u32,
     pairs: &[(u32, u32)],
@@ -111,7 +111,7 @@ fn filing_of(
 }
 
 /// Expands each number by its pairs.
-struct ByPairs;
+pub(crate) struct ByPairs;
 
 impl Expander<Numbers> for ByPairs {
     ghost rulebook_of = { λ _. 3 };
@@ -139,7 +139,7 @@ fn has_filed(ledger: &Ledger<Numbers>, expected: &[u32]) -> bool {
     true
 }
 
-fn is_entry(entry: &Entry<Numbers>, class: u32, children: &[u32], rank: u32) -> bool {
+pub(crate) fn is_entry(entry: &Entry<Numbers>, class: u32, children: &[u32], rank: u32) -> bool {
     entry.class == class
         && entry.rule.parent == class
         && entry.children.as_slice() == children
@@ -195,7 +195,7 @@ fn ends(
     )
 }
 
-fn counts(expanded: u32, classes: u32, rules: u32) -> Counts {
+pub(crate) fn counts(expanded: u32, classes: u32, rules: u32) -> Counts {
     Counts {
         expanded,
         classes,

@@ -14,3 +14,5 @@ pub mod StandingLaws
 pub mod Rows
 pub mod StandingRows
 pub mod LedgerRows
+pub mod Whole
+pub mod Decoding

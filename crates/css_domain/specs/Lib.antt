@@ -8,3 +8,5 @@ pub mod Entries
 pub mod LedgerFacts
 pub mod Reasons
 pub mod FiledSpecs
+pub mod WholeRecords
+pub mod WordViews

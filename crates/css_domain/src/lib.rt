@@ -14,9 +14,11 @@ mod record;
 mod shape;
 #[cfg(test)]
 mod tests;
+mod word_view;
 
 pub use domain::Domain;
 pub use filing::Filing;
 pub use laws::{counts_are_determined, filed_specs_stand};
 pub use record::Record;
 pub use shape::{Shape, same_length};
+pub use word_view::WordView;

@@ -3,6 +3,7 @@ use crate::filing::Filing;
 use crate::laws::{counts_are_determined, filed_specs_stand};
 use crate::record::Record;
 use crate::shape::{Shape, same_length};
+use crate::word_view::WordView;
 use sequences::Sequence;
 use std::alloc::{AllocError, Global};
 
@@ -94,10 +95,23 @@ fn a_record_is_its_parts(rt: HostRuntime) {
         same_length(insertion.shape, insertion.children.as_slice(), 1),
         true
     );
+    let copied = insertion.copied(rt.alloc()).expect(&rt, "memory");
+    assert!(rt; copied.children.as_slice() == insertion.children.as_slice());
 }
 
 #[test]
 fn laws_compute_nothing() {
     counts_are_determined::<Numbers>();
     filed_specs_stand::<Numbers>();
+}
+
+#[test]
+fn a_view_counts_its_readings(rt: HostRuntime) {
+    let words = [7, 9];
+    let mut view = WordView::of(words.as_slice());
+    assert_eq!(rt; view.len(), 2);
+    assert_eq!(rt; view.reads(), 0);
+    assert_eq!(rt; view.word(1), 9);
+    assert_eq!(rt; view.word(1), 9);
+    assert_eq!(rt; view.reads(), 2);
 }

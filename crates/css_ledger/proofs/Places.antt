@@ -1,5 +1,5 @@
 -- A child's number is the place of its class.
-use Rattle.std.proofs.Common.{◌≡◌, ℕ, Bool, true, false, List, length, get_or, sym, ap, ◌∙◌}
+use Rattle.std.proofs.Common.{◌≡◌, ◌<◌, ℕ, Bool, true, false, List, length, get_or, sym, ap, ◌∙◌}
 use Rattle.std.specs.Prelude.{slice_get, Some}
 use Rattle.std.specs.List.{position_or_len}
 use Rattle.std.specs.Cmp.{IsEquivalence}
@@ -13,7 +13,7 @@ use Rattle.css_ledger.specs.Kept.{AreKept}
 use Rattle.std.proofs.lemmas.Option.{get_or_from_slice_get}
 use Rattle.css_domain.proofs.Within.{child_there}
 use Rattle.css_ledger.proofs.Taken.{own}
-use Rattle.lists.proofs.Places.{IsIn-slice_get, found_at, get-map}
+use Rattle.lists.proofs.Places.{IsIn-slice_get, at_place, found_at, get-map}
 
 module _ {C R : Type 0} (D : Meaning C R) (E : C → C → Bool) (laws : IsEquivalence E) (same : (a b : C) → D.same a b ≡ E a b) (exact : (a b : C) → E a b ≡ true → a ≡ b) where
   module _ (l : Books C R) (keys : List C) (stages : List Stage) (items : List Record) (count : ℕ) (kept : AreKept D l keys stages items count) (out_is : l.out ≡ outs stages) where
@@ -29,3 +29,9 @@ module _ {C R : Type 0} (D : Meaning C R) (E : C → C → Bool) (laws : IsEquiv
 
     pub as_many_children : (p : ℕ) (d : Record) (r : R) → slice_get l.rules p ≡ Some r → length (get_or items p d).children ≡ length (D.children r)
     as_many_children p d r at = rw (rec_at p r at d) (length-map {B = ℕ × Bool} (D.children r) (λ b. (position_or_len (D.same b) (classes D l), D.positive b)))
+
+    -- what stands at a position is the rule's record
+    pub record_there : (p : ℕ) (d : Record) → p < length l.rules → slice_get (records D l) p ≡ Some (get_or items p d)
+    record_there p d h =
+        let r = at_place l.rules p h in
+        get-map (λ s. record_of D (classes D l) s) l.rules p r.0 r.1 ∙ ap Some (sym (rec_at p r.0 r.1 d))

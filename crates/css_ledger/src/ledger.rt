@@ -233,6 +233,15 @@ impl<D: Domain> Ledger<D> {
         copy_records(alloc, self.records.as_slice())
     }
 
+    /// The record of the rule at a position. The refusal is want of memory.
+    pub fn record_at(&self, alloc: Global, position: u32) -> Result<Record, AllocError>
+        requires position { position < length self.now.rules }
+        ensures { IfOk result (λ copied. slice_get (records D.meaning self.now) position ≡ Some copied) }
+    {
+        let copied = self.records[position as usize].copied(alloc)?;
+        Ok(copied)
+    }
+
     /// The expanded classes, all classes and the rules, in number. Takes no memory.
     pub fn counts(&self) -> Counts
         ensures answer { counted_as result ≡ counts D.meaning self.now }

@@ -256,6 +256,9 @@ fn a_filing_numbers_children(rt: HostRuntime) -> Result<(), Fail> {
     let records = ledger.records(alloc)?;
     assert_eq!(rt; records.len(), 1);
     assert!(rt; is_record(&records[0], 0, &[(1, false), (2, true)]));
+    assert_eq!(rt; ledger.counts().rules, 1);
+    let item = ledger.record_at(alloc, 0)?;
+    assert!(rt; is_record(&item, 0, &[(1, false), (2, true)]));
     Ok(())
 }
 

@@ -12,7 +12,7 @@ use Rattle.css_log.specs.declared.view.View.{View}
 use Rattle.css_log.specs.declared.view.View.TheVariants.{Writes, Reads}
 use Rattle.css_log.specs.Agreement.{newborn, Agrees, Knows, Kept}
 use Rattle.css_log.specs.Told.{taken_back}
-use Rattle.css_log.proofs.Whole.{whole_none}
+use Rattle.css_domain.proofs.Whole.{whole_none}
 use Rattle.css_log.proofs.Lists.{get_or-zeros}
 use Rattle.css_log.proofs.OtherSeats.{flag_true, as_writer}
 

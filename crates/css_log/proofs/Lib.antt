@@ -1,4 +1,3 @@
-pub mod Whole
 pub mod Lists
 pub mod OtherSeats
 pub mod ReaderSteps

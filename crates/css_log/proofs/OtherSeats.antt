@@ -4,7 +4,7 @@ use mathlib.Core.Option.{Option, some, some-injective}
 use lib.ListN.{get_elem?}
 use Rattle.atomic_table.specs.Table.{State}
 use Rattle.atomic_table.proofs.Lists.{at_set}
-use Rattle.css_log.specs.WholeRecords.{IsWhole}
+use Rattle.css_domain.specs.WholeRecords.{IsWhole}
 use Rattle.css_log.specs.declared.view.ReaderView.{ReaderView}
 use Rattle.css_log.specs.declared.view.WriterView.{WriterView}
 use Rattle.css_log.specs.declared.view.ReaderPlace.{ReaderPlace}

@@ -6,7 +6,7 @@ use lib.Seq.{set-get_or}
 use Rattle.std.proofs.lemmas.List.{take_more}
 use Rattle.atomic_table.specs.Table.{State, Me, step, keeps, stepped, Allows}
 use Rattle.atomic_table.proofs.Lists.{set_else}
-use Rattle.css_log.specs.WholeRecords.{IsWhole}
+use Rattle.css_domain.specs.WholeRecords.{IsWhole}
 use Rattle.css_log.specs.declared.view.ReaderView.{ReaderView}
 use Rattle.css_log.specs.declared.view.WriterView.{WriterView}
 use Rattle.css_log.specs.declared.view.ReaderPlace.TheVariants.{Away}
@@ -59,7 +59,7 @@ module _ {S : Type 0} where
         keeps,
         tt,
         (q, h.1, id, reader_moves h.1 id 0 q r (record r { seen = n }) s u at refl agrees),
-        (refl, omega arith, room, λ e. subst IsWhole (sym a.copied) (subst (λ m. IsWhole (take m q.list)) (sym e) whole)),
+        (refl, omega arith, room),
       )
 
   pub pulls : (slots id i : ℕ) (r : ReaderView) → i ≡ length r.copy + 2 → length r.copy < r.seen

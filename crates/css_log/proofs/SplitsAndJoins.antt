@@ -4,7 +4,7 @@ use mathlib.Core.Option.{some}
 use lib.ListN.{get_elem?}
 use Rattle.atomic_table.specs.Table.{State, Splits, Joins}
 use Rattle.atomic_table.proofs.Lists.{at_set, set_else, at_longer}
-use Rattle.css_log.specs.WholeRecords.{IsWhole}
+use Rattle.css_domain.specs.WholeRecords.{IsWhole}
 use Rattle.css_log.specs.declared.view.ReaderView.{ReaderView}
 use Rattle.css_log.specs.declared.view.WriterView.{WriterView}
 use Rattle.css_log.specs.declared.view.ReaderPlace.TheVariants.{Unsplit, Away, Joined}
@@ -12,7 +12,7 @@ use Rattle.css_log.specs.declared.view.View.{View}
 use Rattle.css_log.specs.declared.view.View.TheVariants.{Spent, Writes, Reads, Notes}
 use Rattle.css_log.specs.Agreement.{flag, blank, Agrees, Knows, Beside, Kept}
 use Rattle.css_log.specs.Told.{without_reader, new_reader, note_of, learnt, taken_back}
-use Rattle.css_log.proofs.Whole.{whole_none}
+use Rattle.css_domain.proofs.Whole.{whole_none}
 use Rattle.css_log.proofs.Lists.{set_at, at_end, the_greater}
 use Rattle.css_log.proofs.OtherSeats.{not_both, seats_set, not_note, not_yet, gone, as_writer, as_reader}
 

@@ -8,7 +8,7 @@ use lib.Seq.{set-get_or}
 use Rattle.std.proofs.lemmas.Bool.Decides.{nat_tests}
 use Rattle.std.proofs.lemmas.List.{take-append-le, take_all}
 use Rattle.atomic_table.specs.Table.{State, Me, step, keeps, Allows}
-use Rattle.css_log.specs.WholeRecords.{IsWhole}
+use Rattle.css_domain.specs.WholeRecords.{IsWhole}
 use Rattle.css_log.specs.declared.view.WriterView.{WriterView}
 use Rattle.css_log.specs.declared.view.View.{View}
 use Rattle.css_log.specs.declared.view.View.TheVariants.{Writes}

@@ -3,7 +3,7 @@ use Rattle.std.specs.Prelude.{◌≡◌, ℕ, ◌+◌, ◌<◌, ◌≤◌, Bool,
 use mathlib.Core.Option.{some}
 use lib.ListN.{get_elem?}
 use Rattle.atomic_table.specs.Table.{State}
-use Rattle.css_log.specs.WholeRecords.{IsWhole}
+use Rattle.css_domain.specs.WholeRecords.{IsWhole}
 use Rattle.css_log.specs.declared.view.ReaderView.{ReaderView}
 use Rattle.css_log.specs.declared.view.WriterView.{WriterView}
 use Rattle.css_log.specs.declared.view.ReaderPlace.{ReaderPlace}

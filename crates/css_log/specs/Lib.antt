@@ -1,4 +1,3 @@
-pub mod WholeRecords
 pub mod Agreement
 pub mod Told
 pub mod States

@@ -1,7 +1,7 @@
 -- What each kind of step tells the seat that makes it: of the seat before, the number found or stored, and the seat after.
 use Rattle.std.specs.Prelude.{◌≡◌, ℕ, ◌+◌, ◌≤◌, ◌<◌, true, ◌==◌, max, [], ◌∷◌, ◌++◌, length}
 use Rattle.atomic_table.specs.Table.{Me, Step}
-use Rattle.css_log.specs.WholeRecords.{IsWhole}
+use Rattle.css_domain.specs.WholeRecords.{IsWhole}
 use Rattle.css_log.specs.declared.view.ReaderPlace.TheVariants.{Away, Joined}
 use Rattle.css_log.specs.Agreement.{blank}
 use Rattle.css_log.specs.declared.view.View.{View}
@@ -13,7 +13,7 @@ module _ {S : Type 0} where
   seated v = (v, [])
 
   abbrev pub CountedBy : View → ℕ → Me S View → Type 0
-  CountedBy (Reads r) n m' = (m' ≡ seated (Reads (record r { seen = n }))) × (r.seen ≤ n) × (n + 2 ≤ r.size) × (length r.copy ≡ n → IsWhole r.copy)
+  CountedBy (Reads r) n m' = (m' ≡ seated (Reads (record r { seen = n }))) × (r.seen ≤ n) × (n + 2 ≤ r.size)
   CountedBy _ n m' = Unit {0}
 
   -- the reader has seen the count, which is not below what it had seen

@@ -16,7 +16,7 @@ struct Copying {
 impl Copying {
     ghost use Rattle.std.specs.Prelude.{◌≡◌, ◌+◌, ◌≤◌, length, vec_len, vec_capacity};
     ghost use mathlib.Core.List.{IsPrefix};
-    ghost use Rattle.css_log.specs.WholeRecords.{IsWhole};
+    ghost use Rattle.css_domain.specs.WholeRecords.{IsWhole};
     ghost use Rattle.css_log.specs.States.{reading};
     ghost use Rattle.css_log.specs.Told.{seated};
 
@@ -26,7 +26,7 @@ impl Copying {
         requires knows { self.old.seat.me ≡ seated (reading self.old.seat.table_id self.old.words.items self.old.seen self.old.stops) }
         requires below { vec_len self.old.words ≤ self.old.seen }
         requires inside { self.old.seen + 2 ≤ self.old.seat.table_id.words }
-        requires whole { vec_len self.old.words ≡ self.old.seen → IsWhole self.old.words.items }
+        requires whole { IsWhole self.old.words.items }
         requires room { self.old.seen ≤ vec_capacity self.old.words }
         ensures same { (self.new.seat.table_id ≡ self.old.seat.table_id) × (self.new.seen ≡ self.old.seen) × (self.new.stops ≡ self.old.stops) }
         ensures knows { self.new.seat.me ≡ seated (reading self.old.seat.table_id self.new.words.items self.old.seen self.old.stops) }
@@ -55,7 +55,7 @@ pub struct Reader {
 
 impl Model for Reader {
     ghost use Rattle.std.specs.Prelude.{◌≡◌, ◌+◌, ◌≤◌, length};
-    ghost use Rattle.css_log.specs.WholeRecords.{IsWhole};
+    ghost use Rattle.css_domain.specs.WholeRecords.{IsWhole};
     ghost use Rattle.css_log.specs.States.{ReaderState, reading};
     ghost use Rattle.css_log.specs.Told.{seated};
 
@@ -72,13 +72,13 @@ impl Model for Reader {
         (r.copying.seat.me ≡ seated (reading r.copying.seat.table_id r.copying.words.items r.copying.seen r.copying.stops))
         × (length r.copying.words.items ≤ r.copying.seen)
         × (r.copying.seen + 2 ≤ r.copying.seat.table_id.words)
-        × (length r.copying.words.items ≡ r.copying.seen → IsWhole r.copying.words.items) };
+        × IsWhole r.copying.words.items };
 }
 
 impl Reader {
     ghost use Rattle.std.specs.Prelude.{◌≡◌, ◌≤◌, [], true, false, length, max, OnOk, OnErr};
     ghost use mathlib.Core.List.{IsPrefix};
-    ghost use Rattle.css_log.specs.WholeRecords.{IsWhole};
+    ghost use Rattle.css_domain.specs.WholeRecords.{IsWhole};
     ghost use Rattle.css_log.specs.States.{ReaderState, reading};
     ghost use Rattle.css_log.specs.Told.{seated};
 
@@ -97,9 +97,10 @@ impl Reader {
         }
     }
 
-    /// The words that were pulled. Takes no memory.
+    /// The words that were pulled, which are whole records at every time. Takes no memory.
     pub fn words(&self) -> &[u64]
-        ensures { result.now ≡ self.now.copy }
+        ensures copy { result.now ≡ self.now.copy }
+        ensures whole { IsWhole result.now }
     {
         self.copying.words.as_slice()
     }

@@ -1,7 +1,7 @@
 //! One log in one thread and in two. The record is that of an insertion: parent 0, a union, the children 1 and,
 //! positive, 2.
 ghost use Rattle.std.specs.Prelude.{◌≡◌, ◌≤◌, ◌*◌, ◌+◌, ◌++◌, ◌∷◌, [], length};
-ghost use Rattle.css_log.specs.WholeRecords.{IsWhole};
+ghost use Rattle.css_domain.specs.WholeRecords.{IsWhole};
 ghost use Rattle.css_log.specs.States.{WriterState, ReaderState, HasRoom};
 
 use crate::{Log, Reader, Writer};
@@ -97,5 +97,18 @@ fn a_second_thread_reads_what_the_first_writes(rt: HostRuntime) -> Result<(), Fa
         log.close(writer, reader)
             .is_ok_and(|words| words.len() == 400)
     );
+    Ok(())
+}
+
+#[test]
+fn a_look_alone_shows_what_is_published(rt: HostRuntime) -> Result<(), Fail> {
+    let (log, mut writer, mut reader) = Log::new(rt.alloc(), 4)?;
+    assert_eq!(rt; reader.look(&log), 0);
+    reader.pull(&log)?;
+    assert_eq!(rt; reader.words().len(), 0);
+    write_one(&log, &mut writer);
+    assert_eq!(rt; reader.look(&log), 4);
+    reader.pull(&log)?;
+    assert!(rt; reader.words() == INSERTION.as_slice());
     Ok(())
 }

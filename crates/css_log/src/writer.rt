@@ -15,7 +15,7 @@ pub struct Writer {
 
 impl Model for Writer {
     ghost use Rattle.std.specs.Prelude.{◌≡◌, ◌+◌, ◌≤◌, length, take};
-    ghost use Rattle.css_log.specs.WholeRecords.{IsWhole};
+    ghost use Rattle.css_domain.specs.WholeRecords.{IsWhole};
     ghost use Rattle.css_log.specs.States.{WriterState, list_of, writing};
     ghost use Rattle.css_log.specs.Told.{seated};
 
@@ -38,7 +38,7 @@ impl Model for Writer {
 
 impl Writer {
     ghost use Rattle.std.specs.Prelude.{◌≡◌, ◌+◌, ◌≤◌, [], ◌∷◌, ◌++◌, true, false, length, take};
-    ghost use Rattle.css_log.specs.WholeRecords.{IsWhole};
+    ghost use Rattle.css_domain.specs.WholeRecords.{IsWhole};
     ghost use Rattle.css_log.specs.States.{WriterState, HasRoom, writing};
     ghost use Rattle.css_log.specs.Told.{seated};
 

@@ -1,6 +1,6 @@
 -- Entries one by one, as far as the first fault.
 use Rattle.std.proofs.Common.{◌≡◌, ℕ, zero, suc, ◌+◌, ◌<◌, ◌≤◌, Bool, true, false, List, [], ◌∷◌, length, get_or, refl, sym, ap, subst, ◌∙◌, ⊎_elim, arith}
-use Rattle.std.specs.Prelude.{Option, ◌⊎◌, ◌≢◌, ◌&&◌, ◌==◌, not, nat_lt, map, remove, slice_get, slice_index, Some, IsTrue}
+use Rattle.std.specs.Prelude.{Option, ◌≢◌, ◌&&◌, ◌==◌, not, nat_lt, map, remove, slice_get, slice_index, Some, IsTrue}
 use Rattle.std.specs.List.{list_any, list_all}
 use Rattle.std.proofs.lemmas.Bool.{eqb-true, eq-eqb, and_from}
 use Rattle.std.proofs.lemmas.Bool.Decides.{nat_tests}

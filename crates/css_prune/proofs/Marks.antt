@@ -1,6 +1,6 @@
 -- Marks record by record, and that they end as ranks and picks.
-use Rattle.std.proofs.Common.{◌≡◌, ℕ, zero, suc, ◌+◌, ◌<◌, ◌≤◌, Bool, true, false, cond, nat_lt, List, [], ◌∷◌, length, refl, sym, ◌∙◌, arith}
-use Rattle.std.specs.Prelude.{◌&&◌, ◌≢◌, slice_get, Some}
+use Rattle.std.proofs.Common.{◌≡◌, ℕ, zero, suc, ◌<◌, ◌≤◌, Bool, true, false, cond, nat_lt, List, [], ◌∷◌, length, refl, ◌∙◌, arith}
+use Rattle.std.specs.Prelude.{◌&&◌, slice_get, Some}
 use Rattle.std.specs.List.{list_any, position_or_len}
 use Rattle.std.proofs.lemmas.Bool.Decides.{nat_tests}
 use Rattle.css_domain.specs.declared.record.Record.{Record}
@@ -58,34 +58,6 @@ module _ (K : ℕ → Bool) (records : List Record) where
       go : (is_ranked K records n c ≡ true → (0 < rank_after K records n c) × (rank_after K records n c ≤ n)) → (b : Bool) → is_ranked K records n c ≡ b → (0 < rank_after K records (suc n) c) × (rank_after K records (suc n) c ≤ suc n)
       go before true e = let s = before e in let m = old_mark n (length records) c (rank_after K records n c) (suc n) e in (omega (arith, s, m), omega (arith, s, m))
       go before false e = let m : rank_after K records (suc n) c ≡ suc n = whole_mark n c (rank_after K records n c) (suc n) true h ∙ rw e refl in (omega (arith, m), omega (arith, m))
-
-  -- before the first record of a round the marks are those of the round before
-  pub rank_start : (n c : ℕ) → mark K records n 0 c (rank_after K records n c) (suc n) ≡ rank_after K records n c
-  rank_start n c = go (is_ranked K records n c) refl
-    where
-      go : (b : Bool) → is_ranked K records n c ≡ b → mark K records n 0 c (rank_after K records n c) (suc n) ≡ rank_after K records n c
-      go true e = old_mark n 0 c _ _ e
-      go false e = no_mark n 0 c _ _ e (omega arith) ∙ sym (rank_none n c e)
-
-  pub pick_start : (n c : ℕ) → mark K records n 0 c (pick_after K records n c) (giver K records n c) ≡ pick_after K records n c
-  pick_start n c = go (is_ranked K records n c) refl
-    where
-      go : (b : Bool) → is_ranked K records n c ≡ b → mark K records n 0 c (pick_after K records n c) (giver K records n c) ≡ pick_after K records n c
-      go true e = old_mark n 0 c _ _ e
-      go false e = no_mark n 0 c _ _ e (omega arith) ∙ sym (pick_none n c e)
-
-  -- a rank below the new one is a rank of an earlier round
-  pub lower_is_ranked : (n seen c : ℕ) → (nat_lt 0 (mark K records n seen c (rank_after K records n c) (suc n)) && nat_lt (mark K records n seen c (rank_after K records n c) (suc n)) (suc n)) ≡ is_ranked K records n c
-  lower_is_ranked n seen c = go (is_ranked K records n c) refl (nat_lt (giver K records n c) seen)
-    where
-      go : (b : Bool) → is_ranked K records n c ≡ b → (s : Bool) → (nat_lt 0 (cond b (rank_after K records n c) (cond s (suc n) 0)) && nat_lt (cond b (rank_after K records n c) (cond s (suc n) 0)) (suc n)) ≡ b
-      go true e s = let r = rank_some n c e in let x : nat_lt 0 (rank_after K records n c) ≡ true = grind (arith, nat_tests, r.0) in let y : nat_lt (rank_after K records n c) (suc n) ≡ true = grind (arith, nat_tests, r.1) in rw (x, y) refl
-      go false e true = grind (arith, nat_tests)
-      go false e false = refl
-
-  -- one more record that isn't the first to give c a rank
-  pub same_mark : (n i c old new : ℕ) → giver K records n c ≢ i → mark K records n (i + 1) c old new ≡ mark K records n i c old new
-  same_mark n i c old new other = let e : nat_lt (giver K records n c) (i + 1) ≡ nat_lt (giver K records n c) i = grind (arith, nat_tests) in rw e refl
 
   -- what the first record to give c a rank is
   pub giver_gives : (n i c : ℕ) (r : Record) → slice_get records i ≡ Some r → giver K records n c ≡ i → gives_next K records n c r ≡ true

@@ -6,7 +6,6 @@ use Rattle.std.proofs.lemmas.Bool.{eqb-true, eq-eqb, and_parts}
 use Rattle.std.proofs.lemmas.List.{length-map}
 use Rattle.std.proofs.lemmas.Option.{slice_get_within}
 use Rattle.std.proofs.lemmas.Slice.Zip.{AllZip-long}
-use Rattle.lists.specs.Members.IsIn.{here}
 use Rattle.lists.specs.Members.NoRepeats.{no_element, one_more}
 use Rattle.lists.proofs.Places.{IsIn-slice_get, at_place, found_at, get-map, index_is, zip_at, zip_back, place_of}
 use Rattle.lists.proofs.Added.{position_of}

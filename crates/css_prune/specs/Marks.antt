@@ -1,5 +1,5 @@
 -- Ranks as marks that grow record by record.
-use Rattle.std.specs.Prelude.{◌≡◌, ◌≢◌, ◌⊎◌, ◌<◌, ◌^◌, ℕ, zero, suc, Bool, true, ◌&&◌, cond, nat_lt, List, length, map, slice_index, slice_set, count_by, false}
+use Rattle.std.specs.Prelude.{◌≡◌, ◌≢◌, ◌⊎◌, ◌<◌, ◌^◌, ℕ, zero, suc, Bool, true, ◌&&◌, cond, nat_lt, nat_le, not, ◌==◌, ◌||◌, List, length, map, slice_index, slice_set, count_by, false}
 use Rattle.std.specs.List.{position_or_len, list_all}
 use Rattle.css_domain.specs.declared.record.Record.{Record}
 use Rattle.css_domain.specs.Records.{numbers}
@@ -39,11 +39,6 @@ module _ (K : ℕ → Bool) (records : List Record) where
   pick_after zero c = 0
   pick_after (suc n) c = mark n (length records) c (pick_after n c) (giver n c)
 
-  -- the ranks and picks when the first records have been gone through in the round after n rounds
-  pub record AreMarks (n seen : ℕ) (ranks picks : List ℕ) : Type 0 where
-    pub ranked : (c : ℕ) → slice_index ranks c ≡ mark n seen c (rank_after n c) (suc n)
-    pub picked : (c : ℕ) → slice_index picks c ≡ mark n seen c (pick_after n c) (giver n c)
-
   -- the ranks and picks after n rounds
   pub record AreAfter (n : ℕ) (ranks picks : List ℕ) : Type 0 where
     pub ranked : (c : ℕ) → slice_index ranks c ≡ rank_after n c
@@ -62,6 +57,10 @@ gives_mark K end ranks r = K r.parent && (list_all K (numbers r) && each_same_le
 abbrev pub AreBelow : ℕ → List (ℕ × Bool) → Type 0
 AreBelow classes children = (slot : ℕ) → slot < length children → slice_index (map (λ child. child.0) children) slot < classes
 
+-- whether nothing is left to give at this place: the rank is an earlier one, or this one by an earlier record
+abbrev pub is_passed : ℕ → ℕ → ℕ → ℕ → Bool
+is_passed end place rank pick = nat_lt 0 rank && (not (rank == end) || nat_le pick place)
+
 -- what is done with one record: its parent gets the new rank where it has none and the record gives it
 pub record IsGiven (K : ℕ → Bool) (end place : ℕ) (r : Record) (old_ranks old_picks new_ranks new_picks : List ℕ) : Type 0 where
   pub none : slice_index old_ranks r.parent ≡ 0
@@ -69,8 +68,16 @@ pub record IsGiven (K : ℕ → Bool) (end place : ℕ) (r : Record) (old_ranks 
   pub ranks : new_ranks ≡ slice_set old_ranks r.parent end
   pub picks : new_picks ≡ slice_set old_picks r.parent place
 
-pub record IsSkipped (K : ℕ → Bool) (end : ℕ) (r : Record) (old_ranks old_picks new_ranks new_picks : List ℕ) : Type 0 where
-  pub why : (slice_index old_ranks r.parent ≢ 0) ⊎ (gives_mark K end old_ranks r ≡ false)
+-- the parent has the new rank by a later record, and this one becomes its pick
+pub record IsBetter (K : ℕ → Bool) (end place : ℕ) (r : Record) (old_ranks old_picks new_ranks new_picks : List ℕ) : Type 0 where
+  pub some : slice_index old_ranks r.parent ≢ 0
+  pub later : is_passed end place (slice_index old_ranks r.parent) (slice_index old_picks r.parent) ≡ false
+  pub gives : gives_mark K end old_ranks r ≡ true
+  pub ranks : new_ranks ≡ old_ranks
+  pub picks : new_picks ≡ slice_set old_picks r.parent place
+
+pub record IsSkipped (K : ℕ → Bool) (end place : ℕ) (r : Record) (old_ranks old_picks new_ranks new_picks : List ℕ) : Type 0 where
+  pub why : (is_passed end place (slice_index old_ranks r.parent) (slice_index old_picks r.parent) ≡ true) ⊎ (gives_mark K end old_ranks r ≡ false)
   pub ranks : new_ranks ≡ old_ranks
   pub picks : new_picks ≡ old_picks
 

@@ -1,7 +1,7 @@
-ghost use Rattle.std.specs.Prelude.{◌≡◌, ◌<◌, ◌^◌, ◌&&◌, ◌||◌, not, true, false, length, map, slice_index};
+ghost use Rattle.std.specs.Prelude.{◌≡◌, ◌<◌, ◌^◌, ◌&&◌, ◌||◌, ◌⊎◌, not, true, false, length, map, slice_index};
 ghost use Rattle.std.specs.List.{list_all, range_with_len};
 ghost use Rattle.css_domain.specs.Shapes.{is_same_length};
-ghost use Rattle.css_prune.specs.Marks.{has_rank_below, gives_mark, AreBelow, AreShort, IsGiven, IsSkipped};
+ghost use Rattle.css_prune.specs.Marks.{has_rank_below, gives_mark, is_passed, AreBelow, AreShort, IsGiven, IsBetter, IsSkipped};
 ghost use Rattle.css_domain.specs.Records.{IsWithin};
 ghost use Rattle.css_prune.specs.Pruning.{kept};
 
@@ -72,7 +72,15 @@ fn gives_mark(item: &Record, keep: &[bool], ranks: &[u32], end: u32) -> bool
         && are_lower(item.shape, children, ranks, end)
 }
 
-/// Gives the record's parent the rank `end`, where it has none and the record gives it.
+/// Whether nothing is left to give: the class has an earlier rank, or this one by an earlier record.
+fn is_passed(end: u32, place: u32, rank: u32, pick: u32) -> bool
+    ensures { result ≡ is_passed end place rank pick }
+{
+    0 < rank && (rank != end || pick <= place)
+}
+
+/// Gives the record's parent the rank `end` where it has none and the record gives it, and makes the record its pick
+/// where it has this rank by a later record. Answers whether the rank is new.
 pub fn give(
     item: &Record,
     place: u32,
@@ -86,16 +94,21 @@ pub fn give(
     requires ranks { length ranks.old ≡ length keep.now }
     requires picks { length picks.old ≡ length keep.now }
     ensures given { result ≡ true → IsGiven (kept keep.now) end place item.now ranks.old picks.old ranks.new picks.new }
-    ensures skipped { result ≡ false → IsSkipped (kept keep.now) end item.now ranks.old picks.old ranks.new picks.new }
+    ensures left { result ≡ false → IsBetter (kept keep.now) end place item.now ranks.old picks.old ranks.new picks.new
+        ⊎ IsSkipped (kept keep.now) end place item.now ranks.old picks.old ranks.new picks.new }
 {
     let parent = item.parent as usize;
-    if ranks[parent] != 0 {
+    let rank = ranks[parent];
+    if is_passed(end, place, rank, picks[parent]) {
         return false;
     }
     if !gives_mark(item, keep, ranks, end) {
         return false;
     }
-    ranks[parent] = end;
     picks[parent] = place;
+    if rank != 0 {
+        return false;
+    }
+    ranks[parent] = end;
     true
 }

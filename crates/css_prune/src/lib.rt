@@ -8,15 +8,21 @@ mod gift;
 mod order;
 mod picked;
 mod pruned;
+mod pruner;
+#[cfg(test)]
+mod pruner_tests;
+mod reading;
 mod round;
 mod spec;
 #[cfg(test)]
 mod spec_tests;
 #[cfg(test)]
 mod tests;
+mod waiting;
 
 pub use entry::Entry;
 pub use faults::SpecFault;
 pub use picked::extract;
 pub use pruned::{Pruned, prune};
+pub use pruner::Pruner;
 pub use spec::Spec;

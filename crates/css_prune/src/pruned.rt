@@ -1,11 +1,12 @@
 ghost use Rattle.std.specs.Prelude.{◌≡◌, ◌<◌, ℕ, true, false, length, slice_index, IfOk};
-ghost use Rattle.std.specs.Bool.{OnTrue};
 ghost use Rattle.css_domain.specs.Standing.{TellsStanding, rank_of, pick_of};
 ghost use Rattle.css_prune.specs.Marks.{how_many, AreDropped, AreShort};
 ghost use Rattle.css_domain.specs.Records.{AreWithin};
 ghost use Rattle.css_prune.specs.Pruning.{kept, HasLength};
 
+use crate::pruner::Pruner;
 use crate::round::{Marks, marks_of};
+use crate::waiting::waiting_of;
 use css_domain::Record;
 use sequences::Sequence;
 use std::alloc::{AllocError, Global};
@@ -38,19 +39,29 @@ fn drop_unranked(keep: &mut [bool], ranks: &[u32]) -> bool
     fewer
 }
 
-/// Whether the numbers of records and of each record's children fit u32.
-fn are_short(records: &[Record]) -> bool
-    ensures { OnTrue result (AreShort records.now) }
+/// Which classes stand among the records, with their ranks and picks. The records, and the children of each, can be
+/// numbered. The refusal is want of memory.
+pub(crate) fn standing_among(
+    alloc: Global,
+    records: &[Record],
+    classes: u32,
+) -> Result<Pruned, AllocError>
+    requires within { AreWithin classes records.now }
+    requires short { AreShort records.now }
+    ensures as_many { IfOk result (λ pruned. HasLength classes pruned) }
+    ensures standing { IfOk result (λ pruned. TellsStanding records.now (kept pruned.keep)) }
+    ensures ranked { IfOk result (λ pruned. (c : ℕ) → slice_index pruned.rank c ≡ rank_of (kept pruned.keep) records.now c) }
+    ensures picked { IfOk result (λ pruned. (c : ℕ) → slice_index pruned.pick c ≡ pick_of (kept pruned.keep) records.now c) }
+    ensures none_elsewhere { IfOk result (λ pruned. (c : ℕ) → kept pruned.keep c ≡ false → (slice_index pruned.rank c ≡ 0) × (slice_index pruned.pick c ≡ 0)) }
 {
-    if records.len() > u32::MAX as usize {
-        return false;
-    }
-    for item in records {
-        if item.children.as_slice().len() > u32::MAX as usize {
-            return false;
+    let waiting = waiting_of(alloc, records, classes)?;
+    let mut keep = vec![in alloc; true; classes as usize]?;
+    loop {
+        let Marks { ranks, picks } = marks_of(alloc, records, &waiting, keep.as_slice())?;
+        if !drop_unranked(&mut keep, ranks.as_slice()) {
+            return Ok(pruned_of(keep, ranks, picks));
         }
     }
-    true
 }
 
 /// Which classes stand among the records, with their ranks and picks (docs/RULES.md, "Standing, ranks and picks"). All
@@ -63,16 +74,11 @@ pub fn prune(alloc: Global, records: &[Record], classes: u32) -> Result<Pruned, 
     ensures picked { IfOk result (λ pruned. (c : ℕ) → slice_index pruned.pick c ≡ pick_of (kept pruned.keep) records.now c) }
     ensures none_elsewhere { IfOk result (λ pruned. (c : ℕ) → kept pruned.keep c ≡ false → (slice_index pruned.rank c ≡ 0) × (slice_index pruned.pick c ≡ 0)) }
 {
-    if !are_short(records) {
-        return Err(AllocError);
+    let mut pruner = Pruner::new(alloc)?;
+    for item in records {
+        pruner.push(item)?;
     }
-    let mut keep = vec![in alloc; true; classes as usize]?;
-    loop {
-        let Marks { ranks, picks } = marks_of(alloc, records, keep.as_slice())?;
-        if !drop_unranked(&mut keep, ranks.as_slice()) {
-            return Ok(pruned_of(keep, ranks, picks));
-        }
-    }
+    pruner.prune(alloc, classes)
 }
 
 fn pruned_of(keep: Vec<bool>, ranks: Vec<u32>, picks: Vec<u32>) -> Pruned

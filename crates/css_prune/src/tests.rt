@@ -10,8 +10,9 @@ use std::test::Fail;
 
 /// Records with what stands among them, worked out apart from this program. A row has the number of
 /// classes; the records, each a parent, a shape and the children, with + where they are positive; for each
-/// class its rank, which is 0 exactly where it isn't kept; and its pick.
-const ROWS: [&str; 47] = [
+/// class its rank, which is 0 exactly where it isn't kept; and its pick. The last two have the record of a point
+/// that is placed again, which makes a class its own child: alone, and before those of the avoiders of 021.
+const ROWS: [&str; 49] = [
     "0 |  |  | ",
     "1 |  | 0 | 0",
     "1 | 0 atom0 | 1 | 0",
@@ -59,6 +60,8 @@ const ROWS: [&str; 47] = [
     "2 | 1 nothing; 0 union 0+ | 0 1 | 0 0",
     "5 | 0 product 4+ | 0 0 0 0 0 | 0 0 0 0 0",
     "4 | 3 atom0 | 0 0 0 1 | 0 0 0 0",
+    "12 | 2 union 11 2+ | 0 0 0 0 0 0 0 0 0 0 0 0 | 0 0 0 0 0 0 0 0 0 0 0 0",
+    "12 | 2 union 11 2+; 0 union 1 2+; 0 union 1 3+; 1 atom0; 2 product 4 5+; 3 product 6 5+; 4 union 7; 5 atom1; 6 union 1 8+ 9+; 6 union 1 10+ 3+; 7 product 0 0; 11 nothing | 3 1 2 0 5 1 0 4 0 0 0 1 | 1 3 4 0 6 7 0 10 0 0 0 11",
 ];
 
 fn are_below(children: &[(u32, bool)], classes: u32) -> bool

@@ -12,7 +12,7 @@ use Rattle.css_domain.proofs.Within.{parent_at, child_at}
 use Rattle.std.proofs.lemmas.Option.{slice_get_within}
 use Rattle.lists.specs.Members.{IsIn}
 use Rattle.lists.proofs.Members.{from_IsIn-map}
-use Rattle.css_log.specs.WholeRecords.{IsNarrow, IsNarrowShape}
+use Rattle.css_domain.specs.WholeRecords.{IsNarrow, IsNarrowShape}
 use Rattle.css_domain.specs.Ledgers.{Books, classes, record_of, records}
 use Rattle.css_domain.specs.LedgerFacts.{IsLedger}
 use Rattle.lists.proofs.Added.{position_of}

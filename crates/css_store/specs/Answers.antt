@@ -2,7 +2,7 @@
 use Rattle.std.specs.Prelude.{Bool, true, false, ◌≡◌, ◌<◌, ◌≤◌, ℕ, List, Option, Some, None, slice_get}
 use Rattle.atomic_table.specs.Seated.{TableId}
 use Rattle.css_domain.specs.Meanings.{Meaning}
-use Rattle.css_domain.specs.Ledgers.{Books, classes, claimed, with_work}
+use Rattle.css_domain.specs.Ledgers.{Books, Claimed, classes, claimed, with_work}
 use Rattle.css_domain.specs.Ledgers.Claimed.{Work as WorkOn, Spent as IsSpent, Idle as IsIdle, Finished as IsFinished}
 use Rattle.css_ledger.specs.declared.pack.Pack.{Pack}
 use Rattle.css_store.specs.Desks.{DeskState}
@@ -24,14 +24,18 @@ Grows log front workers seen (Some (Grown note)) = (note.log ≡ log) × (note.f
 Grows log front workers seen (Some Ended) = (front ≤ seen) × (workers ≡ 0)
 Grows log front workers seen None = (front ≤ seen) × (0 < workers)
 
+abbrev pub IsWork : Claimed → Type 0
+IsWork (WorkOn n) = Unit {0}
+IsWork _ = ⊥
+
 module _ {X C R : Type 0} (D : Meaning C R) where
-  -- the ledger's answer, with the class where there is work; all but work leaves the ledger as it was
+  -- the ledger's answer, with the class where there is work; all but work leaves the ledger as it was; memory is wanted only for a copy of a class
   abbrev pub Hands : Books C R → DeskClaim X C R → Books C R → Type 0
   Hands old (Work pack class) new = (claimed D old ≡ WorkOn pack.number) × (slice_get (classes D old) pack.number ≡ Some class) × (new ≡ with_work old (WorkOn pack.number))
   Hands old Spent new = (claimed D old ≡ IsSpent) × (new ≡ old)
   Hands old Finished new = (claimed D old ≡ IsFinished) × (new ≡ old)
   Hands old Idle new = (claimed D old ≡ IsIdle) × (new ≡ old)
-  Hands old Memory new = new ≡ old
+  Hands old Memory new = IsWork (claimed D old) × (new ≡ old)
   Hands old Stopped new = ⊥
 
   -- a stop was found; or none was, and the answer is the ledger's
@@ -47,3 +51,8 @@ module _ {X C R : Type 0} (D : Meaning C R) where
 abbrev pub HandsBack : {X C R : Type 0} → Bool → Pack → List R → Unfiled X C R → Type 0
 HandsBack may pack rules (NotOut p f) = (may ≡ false) × (p ≡ pack) × (f ≡ rules)
 HandsBack may pack rules (NoMemory p f) = (may ≡ true) × (p ≡ pack) × (f ≡ rules)
+
+-- the pack and the filing come back
+abbrev pub ComeBack : {X C R : Type 0} → Pack → List R → Unfiled X C R → Type 0
+ComeBack pack rules (NotOut p f) = (p ≡ pack) × (f ≡ rules)
+ComeBack pack rules (NoMemory p f) = (p ≡ pack) × (f ≡ rules)

@@ -8,6 +8,8 @@
 mod answers;
 mod desk;
 mod name;
+#[cfg(test)]
+mod shapes_tests;
 mod store;
 #[cfg(test)]
 mod tests;

@@ -33,10 +33,10 @@ impl<D: Domain, N: StoreName> Store<D, N> {
     ghost use mathlib.Core.List.{IsPrefix};
     ghost use Rattle.css_domain.specs.Records.{words_of};
     ghost use Rattle.css_domain.specs.Ledgers.{records};
-    ghost use Rattle.css_log.specs.WholeRecords.{IsWhole};
+    ghost use Rattle.css_domain.specs.WholeRecords.{IsWhole};
     ghost use Rattle.css_log.specs.States.{ReaderState};
     ghost use Rattle.css_store.specs.Desks.{HasRoomFor};
-    ghost use Rattle.css_store.specs.Answers.{IsGrowth};
+    ghost use Rattle.css_store.specs.Answers.{IsGrowth, ComeBack};
     ghost use Rattle.css_store.specs.Filings.{IsFiling};
 
     /// The store of a new ledger, for 1 to 64 workers and a budget of 1 to 5,000, over a log whose writer has
@@ -85,9 +85,11 @@ impl<D: Domain, N: StoreName> Store<D, N> {
         unreachable!()
     }
 
-    /// Files the rules by one filing of the desk, whose answer is handed on, and wakes all that wait.
+    /// Files the rules by one filing of the desk, whose answer is handed on, and wakes all that wait. Where they
+    /// aren't filed, both values come back.
     pub fn file(&self, rt: &impl Wait, pack: Pack, filing: Filing<D>) -> Result<(), Unfiled<D>>
         requires { IsFiling D.meaning N.rulebook filing }
+        ensures back { IfErr result (λ back. ComeBack pack filing back) }
     {
         let answer = self.desk.lock(rt).file(&self.log, pack, filing);
         self.changed.notify_all();

@@ -188,8 +188,26 @@ fn file<N: StoreName>(
     }
 }
 
-/// Budget 1: the root, then the budget is spent, and once it is filed without rules all is done.
-fn one_class<N: StoreName>(
+/// Budget 1: the first claim is the root's.
+fn claims_first<N: StoreName>(
+    rt: &impl Wait,
+    alloc: Global,
+    log: Log,
+    writer: Writer,
+) -> Result<bool, AllocError>
+    requires log { log ≡ N.log }
+    requires writer { (writer.log ≡ N.log) × (writer.list ≡ []) × (writer.front ≡ 0) }
+    requires room { HasRoomFor 1 log }
+    requires name { (1 ≡ N.budget) × (0 ≡ N.rulebook) }
+{
+    let store = made::<N>(alloc, 1, log, writer)?;
+    let pack = claim_root(rt, alloc, &store)?;
+    store.give_back(rt, pack);
+    Ok(true)
+}
+
+/// Budget 1: a second claim finds the budget spent.
+fn claims_twice<N: StoreName>(
     rt: &impl Wait,
     alloc: Global,
     log: Log,
@@ -203,12 +221,30 @@ fn one_class<N: StoreName>(
     let store = made::<N>(alloc, 1, log, writer)?;
     let pack = claim_root(rt, alloc, &store)?;
     let spent = next_answer(rt, alloc, &store) == "spent";
-    let filed = file(rt, alloc, &store, pack, 7, &[]) == "filed";
-    Ok(spent && filed && next_answer(rt, alloc, &store) == "finished")
+    store.give_back(rt, pack);
+    Ok(spent)
 }
 
-/// Budget 2: what was claimed is given back, and after a stop each claim is answered by it.
-fn stopped<N: StoreName>(
+/// Budget 1: once the root is filed without rules, all is done.
+fn claims_after_the_last_filing<N: StoreName>(
+    rt: &impl Wait,
+    alloc: Global,
+    log: Log,
+    writer: Writer,
+) -> Result<bool, AllocError>
+    requires log { log ≡ N.log }
+    requires writer { (writer.log ≡ N.log) × (writer.list ≡ []) × (writer.front ≡ 0) }
+    requires room { HasRoomFor 1 log }
+    requires name { (1 ≡ N.budget) × (0 ≡ N.rulebook) }
+{
+    let store = made::<N>(alloc, 1, log, writer)?;
+    let pack = claim_root(rt, alloc, &store)?;
+    let filed = file(rt, alloc, &store, pack, 7, &[]) == "filed";
+    Ok(filed && next_answer(rt, alloc, &store) == "finished")
+}
+
+/// Budget 2: what was claimed is given back, and after a stop a claim is answered by it.
+fn claims_after_a_stop<N: StoreName>(
     rt: &impl Wait,
     alloc: Global,
     log: Log,
@@ -224,9 +260,48 @@ fn stopped<N: StoreName>(
     let store = made::<N>(alloc, 2, log, writer)?;
     let pack = claim_root(rt, alloc, &store)?;
     store.give_back(rt, pack);
-    let given = next_answer(rt, alloc, &store) == "work";
     store.stop(rt, &mut reader);
-    Ok(given && next_answer(rt, alloc, &store) == "stopped")
+    Ok(next_answer(rt, alloc, &store) == "stopped")
+}
+
+/// Budget 2: the root's filing is a growth by its four words.
+fn grows<N: StoreName>(
+    rt: &impl Wait,
+    alloc: Global,
+    log: Log,
+    writer: Writer,
+) -> Result<bool, AllocError>
+    requires log { log ≡ N.log }
+    requires writer { (writer.log ≡ N.log) × (writer.list ≡ []) × (writer.front ≡ 0) }
+    requires room { HasRoomFor 2 log }
+    requires name { (2 ≡ N.budget) × (0 ≡ N.rulebook) }
+{
+    let store = made::<N>(alloc, 2, log, writer)?;
+    let pack = claim_root(rt, alloc, &store)?;
+    let filed = file(rt, alloc, &store, pack, 7, &[(10, 21)]) == "filed";
+    let Growth::Grown(note) = store.await_growth(rt, 0) else {
+        return Ok(false);
+    };
+    Ok(filed && note.front() == 4)
+}
+
+/// Budget 2: past these words the growth ends once the worker has retired.
+fn ends<N: StoreName>(
+    rt: &impl Wait,
+    alloc: Global,
+    log: Log,
+    writer: Writer,
+) -> Result<bool, AllocError>
+    requires log { log ≡ N.log }
+    requires writer { (writer.log ≡ N.log) × (writer.list ≡ []) × (writer.front ≡ 0) }
+    requires room { HasRoomFor 2 log }
+    requires name { (2 ≡ N.budget) × (0 ≡ N.rulebook) }
+{
+    let store = made::<N>(alloc, 2, log, writer)?;
+    let pack = claim_root(rt, alloc, &store)?;
+    let filed = file(rt, alloc, &store, pack, 7, &[(10, 21)]) == "filed";
+    store.retire(rt);
+    Ok(filed && matches!(store.await_growth(rt, 4), Growth::Ended))
 }
 
 /// Budget 2: nothing is read before a filing; after the root's there is a note of four words, which are read,
@@ -372,18 +447,42 @@ fn desk_answers<N: StoreName>(alloc: Global, log: &Log, writer: Writer) -> Resul
     Ok(idle && note.front() == 4 && none && ended)
 }
 
-#[test]
-fn store_answers(rt: HostRuntime) -> Result<(), Fail> {
-    let alloc = rt.alloc();
+/// What a store answers to a claim, each case with a store of its own.
+fn claims_answer(rt: &impl Wait, alloc: Global) -> Result<bool, AllocError> {
     let (log, writer, _) = Log::new(alloc, 2048)?;
-    assert!(rt; one_class::<Brand>(&rt, alloc, log, writer)?);
+    let first = claims_first::<Brand>(rt, alloc, log, writer)?;
+    let (log, writer, _) = Log::new(alloc, 2048)?;
+    let twice = claims_twice::<Brand>(rt, alloc, log, writer)?;
+    let (log, writer, _) = Log::new(alloc, 2048)?;
+    let last = claims_after_the_last_filing::<Brand>(rt, alloc, log, writer)?;
     let (log, writer, reader) = Log::new(alloc, 4096)?;
-    assert!(rt; stopped::<Brand>(&rt, alloc, log, writer, reader)?);
-    let (log, writer, reader) = Log::new(alloc, 4096)?;
-    assert!(rt; grows_and_ends::<Brand>(&rt, alloc, log, writer, reader)?);
+    let stopped = claims_after_a_stop::<Brand>(rt, alloc, log, writer, reader)?;
+    Ok(first && twice && last && stopped)
+}
+
+/// What it answers to who waits for growth, and to a foreign pack, each case with a store of its own.
+fn growth_answers(rt: &impl Wait, alloc: Global) -> Result<bool, AllocError> {
+    let (log, writer, _) = Log::new(alloc, 4096)?;
+    let grown = grows::<Brand>(rt, alloc, log, writer)?;
+    let (log, writer, _) = Log::new(alloc, 4096)?;
+    let ended = ends::<Brand>(rt, alloc, log, writer)?;
     let (other, other_writer, _) = Log::new(alloc, 4096)?;
     let (log, writer, _) = Log::new(alloc, 4096)?;
-    assert!(rt; not_out_of::<Brand>(&rt, alloc, (other, other_writer), log, writer)?);
+    let not_out = not_out_of::<Brand>(rt, alloc, (other, other_writer), log, writer)?;
+    Ok(grown && ended && not_out)
+}
+
+#[test]
+fn store_answers(rt: HostRuntime) -> Result<(), Fail> {
+    assert!(rt; claims_answer(&rt, rt.alloc())?);
+    assert!(rt; growth_answers(&rt, rt.alloc())?);
+    Ok(())
+}
+
+#[test]
+fn a_store_is_read(rt: HostRuntime) -> Result<(), Fail> {
+    let (log, writer, reader) = Log::new(rt.alloc(), 4096)?;
+    assert!(rt; grows_and_ends::<Brand>(&rt, rt.alloc(), log, writer, reader)?);
     Ok(())
 }
 
@@ -457,5 +556,59 @@ where
 fn a_second_thread_reads_what_is_filed(rt: HostRuntime) -> Result<(), Fail> {
     let (log, writer, reader) = Log::new(rt.alloc(), 6144)?;
     assert!(rt; reads_beside::<Brand, _>(&rt, rt.alloc(), log, writer, reader)?);
+    Ok(())
+}
+
+/// Claims a class and tells its number. The root's rules are filed after a while, in which whoever waits is woken
+/// in vain; another class is given back.
+fn takes_one<N: StoreName>(rt: &impl Wait, alloc: Global, store: &Store<Numbers, N>) -> u32 {
+    match store.claim(rt, alloc) {
+        StoreClaim::Work(pack, class) => {
+            let number = pack.number();
+            if class != 7 {
+                store.give_back(rt, pack);
+                return number;
+            }
+            for _ in 0..2000u32 {
+                store.retire(rt);
+            }
+            file(rt, alloc, store, pack, class, &[(10, 21)]);
+            number
+        }
+        StoreClaim::Spent => 64,
+        StoreClaim::Finished => 64,
+        StoreClaim::Stopped => 64,
+        StoreClaim::Memory => 64,
+    }
+}
+
+/// Budget 2: while the root is out there is nothing to do, so a second claim waits until it is filed, and is that
+/// of class 1.
+fn waits_for_work<N: StoreName, R: Threads + Wait + Sync>(
+    rt: &R,
+    alloc: Global,
+    log: Log,
+    writer: Writer,
+) -> Result<bool, AllocError>
+where
+    N: Send + Sync,
+    requires log { log ≡ N.log }
+    requires writer { (writer.log ≡ N.log) × (writer.list ≡ []) × (writer.front ≡ 0) }
+    requires room { HasRoomFor 2 log }
+    requires name { (2 ≡ N.budget) × (0 ≡ N.rulebook) }
+{
+    let store = made::<N>(alloc, 2, log, writer)?;
+    let (first, second) = join(
+        rt,
+        || takes_one(rt, alloc, &store),
+        || takes_one(rt, alloc, &store),
+    );
+    Ok((first == 0 && second == 1) || (first == 1 && second == 0))
+}
+
+#[test]
+fn a_claim_waits_for_a_filing(rt: HostRuntime) -> Result<(), Fail> {
+    let (log, writer, _) = Log::new(rt.alloc(), 4096)?;
+    assert!(rt; waits_for_work::<Brand, _>(&rt, rt.alloc(), log, writer)?);
     Ok(())
 }

@@ -4,7 +4,7 @@ ghost use Rattle.css_domain.specs.Records.{shape_code, record_words, words_of};
 ghost use Rattle.css_domain.specs.Ledgers.{classes, record_of, records};
 ghost use Rattle.css_domain.specs.LedgerFacts.{IsLedger};
 ghost use Rattle.css_log.specs.States.{HasRoom};
-ghost use Rattle.css_log.specs.WholeRecords.{IsWhole, IsNarrowShape};
+ghost use Rattle.css_domain.specs.WholeRecords.{IsWhole, IsNarrowShape};
 ghost use Rattle.css_store.specs.Desks.{HasRoomFor};
 ghost use Rattle.css_store.specs.RecordWords.{child_words};
 

@@ -16,5 +16,5 @@ mod value;
 pub use evaluate::terms_of_rows;
 pub use laws::specs_have_rows;
 pub use rows::Row;
-pub use spec_terms::terms;
+pub use spec_terms::{rows_of, terms};
 pub use term::Term;

@@ -31,7 +31,8 @@ fn row_of<D: Domain>(alloc: Global, entry: &Entry<D>) -> Result<Row, AllocError>
     })
 }
 
-fn rows_of<D: Domain>(alloc: Global, entries: &[Entry<D>]) -> Result<Vec<Row>, AllocError>
+/// The rows of entries, each with as many children as its rule has. The refusal is want of memory.
+pub fn rows_of<D: Domain>(alloc: Global, entries: &[Entry<D>]) -> Result<Vec<Row>, AllocError>
     requires { (e : entry.Entry D.Class D.Rule) → IsIn e entries.now → length e.children ≡ length (D.meaning.children e.rule) }
     ensures { IfOk result (λ rows. rows.items ≡ rows_of D.meaning entries.now) }
 {

@@ -1,5 +1,5 @@
 -- Words of bytes order as gridded permutations do.
-use Rattle.std.proofs.Common.{◌≡◌, ℕ, zero, suc, ◌+◌, ◌-◌, ◌*◌, ◌<◌, ◌≤◌, List, [], ◌∷◌, ◌++◌, length, get_or, drop, refl, sym, ap, ◌∙◌, arith, length-append, length-drop}
+use Rattle.std.proofs.Common.{◌≡◌, ℕ, suc, ◌+◌, ◌*◌, ◌<◌, ◌≤◌, List, [], ◌∷◌, ◌++◌, length, get_or, drop, refl, sym, ap, ◌∙◌, arith, length-append, length-drop}
 use Rattle.std.specs.Int.{w64, from_be_bytes}
 use Rattle.std.specs.declared.cmp.Ordering.{Ordering}
 use Rattle.std.specs.declared.cmp.Ordering.TheVariants.{Less, Equal, Greater}
@@ -13,7 +13,7 @@ use Rattle.gridded.specs.declared.cell.Cell.{Cell}
 use Rattle.gridded.specs.Grids.{Point, corner, letter_of, cell_of, nine_letters, nine_cells}
 use Rattle.gridded.specs.Orders.{cell_cmp, letters_of, cells_of, gridded_cmp}
 use Rattle.gridded.specs.OrderLaws.{cell_total}
-use Rattle.gridded.specs.Keys.{AreBytes, IsWordOf, letter_at, cell_at, first_bytes, second_bytes, third_bytes, last_bytes}
+use Rattle.gridded.specs.Keys.{AreBytes, IsWordOf, first_bytes, second_bytes, third_bytes, last_bytes}
 
 then_regroup : (a b c : Ordering) → ordering_then (ordering_then a b) c ≡ ordering_then a (ordering_then b c)
 then_regroup Less b c = refl

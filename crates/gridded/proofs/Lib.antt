@@ -19,3 +19,4 @@ mod Rows
 pub mod Positions
 pub mod Ranked
 pub mod Restricting
+pub mod Numbered

@@ -1,9 +1,9 @@
 -- Gridded permutations by calculation: what is held, removed points and restrictions.
-use Rattle.std.specs.Prelude.{◌≡◌, ℕ, true, false, List, [], ◌∷◌}
+use Rattle.std.specs.Prelude.{◌≡◌, ℕ, true, false, [], ◌∷◌}
 use Rattle.std.proofs.Common.{refl}
 use Rattle.patterns.specs.Occurs.{occurs}
 use Rattle.gridded.specs.declared.cell.Cell.{Cell}
-use Rattle.gridded.specs.Grids.{Point, points, holds}
+use Rattle.gridded.specs.Grids.{points, holds}
 use Rattle.gridded.specs.CellSets.{is_among}
 use Rattle.gridded.specs.Parts.{without_point, restricted}
 

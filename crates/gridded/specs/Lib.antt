@@ -18,3 +18,4 @@ pub mod Parts
 pub mod Places
 pub mod Moved
 pub mod Small
+pub mod Numbers

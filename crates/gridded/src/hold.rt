@@ -1,11 +1,16 @@
-ghost use Rattle.std.specs.Prelude.{◌≡◌, ◌<◌, ◌≤◌, ◌↔◌, ◌&&◌, length, take, drop, slice_index, slice_index_or, IsTrue};
+ghost use Rattle.std.specs.Prelude.{◌≡◌, ◌<◌, ◌≤◌, ◌↔◌, ◌&&◌, false, length, take, drop, slice_index, slice_index_or, IsTrue, MatchOption};
+ghost use Rattle.patterns.specs.Occurs.{contains_in_cells};
 ghost use Rattle.patterns.specs.Search.{letters_fit};
+ghost use Rattle.patterns.specs.Words.{has_no_repeats};
 ghost use Rattle.gridded.specs.Grids.{points, corner, holds, Holds};
-ghost use Rattle.gridded.specs.Orders.{cell_eq};
+ghost use Rattle.gridded.specs.Numbers.{are_small};
+ghost use Rattle.gridded.specs.Orders.{cell_eq, cells_of};
 ghost use Rattle.gridded.specs.Search.{found};
 
 use crate::cell::Cell;
 use crate::gridded::Gridded;
+use crate::number::numbers;
+use kernels::occurs_cells;
 use patterns::fits_next;
 
 /// Whether a point may stand for the pattern's next one, after some letters were chosen.
@@ -75,6 +80,58 @@ fn extends(
         )
 }
 
+/// Whether the pattern is held, point by point, for a pattern of any length and any cells.
+fn is_found(whole: &Gridded, pattern: &Gridded) -> bool
+    ensures { result ≡ holds whole.now pattern.now }
+{
+    extends(
+        whole.letters(),
+        whole.cells(),
+        pattern.letters(),
+        pattern.cells(),
+        [0; 9],
+        0,
+        0,
+    )
+}
+
+/// Whether a pattern of 1 to 4 letters occurs, by the loops made for its length. Cells are given by their
+/// numbers; those past the pattern's end don't matter.
+fn occurs_by_length(
+    letters: &[u8],
+    numbers: &[u8],
+    pattern: &[u8],
+    pattern_numbers: &[u8; 9],
+) -> bool
+    requires least { 1 ≤ length pattern.now }
+    requires most { length pattern.now ≤ 4 }
+    requires as_many { length letters.now ≡ length numbers.now }
+    requires pattern_differs { IsTrue (has_no_repeats pattern.now) }
+    requires letters_differ { IsTrue (has_no_repeats letters.now) }
+    ensures { result ≡ contains_in_cells letters.now numbers.now pattern.now (take (length pattern.now) pattern_numbers.now) }
+{
+    let [x, y, z, w, ..] = *pattern_numbers;
+    match pattern {
+        [a] => occurs_cells(&[*a], &[x], letters, numbers),
+        [a, b] => occurs_cells(&[*a, *b], &[x, y], letters, numbers),
+        [a, b, c] => occurs_cells(&[*a, *b, *c], &[x, y, z], letters, numbers),
+        [a, b, c, d, ..] => occurs_cells(&[*a, *b, *c, *d], &[x, y, z, w], letters, numbers),
+        [] => true,
+    }
+}
+
+/// Whether a pattern of 1 to 4 points is held, where all cells of both have x and y below 8.
+fn holds_by_length(whole: &Gridded, pattern: &Gridded) -> Option<bool>
+    requires least { 1 ≤ length pattern.now }
+    requires most { length pattern.now ≤ 4 }
+    ensures { MatchOption result ((are_small (cells_of whole.now) && are_small (cells_of pattern.now)) ≡ false) (λ held. held ≡ holds whole.now pattern.now) }
+{
+    let own = numbers(whole.cells())?;
+    let others = numbers(pattern.cells())?;
+    let letters = whole.letters();
+    Some(occurs_by_length(letters, &own[..letters.len()], pattern.letters(), &others))
+}
+
 /// Whether points of the whole stand at rising places in the pattern's relative order, each in its point's
 /// cell (docs/RULES.md, "Gridded permutations"). Takes no memory.
 pub fn holds(whole: &Gridded, pattern: &Gridded) -> bool
@@ -85,13 +142,10 @@ pub fn holds(whole: &Gridded, pattern: &Gridded) -> bool
     if free & pattern.free() != free {
         return false;
     }
-    extends(
-        whole.letters(),
-        whole.cells(),
-        pattern.letters(),
-        pattern.cells(),
-        [0; 9],
-        0,
-        0,
-    )
+    if !pattern.is_empty() && pattern.len() <= 4 {
+        if let Some(held) = holds_by_length(whole, pattern) {
+            return held;
+        }
+    }
+    is_found(whole, pattern)
 }

@@ -18,6 +18,7 @@ mod gridded;
 mod hold;
 mod key;
 mod laws;
+mod number;
 mod part;
 mod set_cells;
 mod small;

@@ -64,6 +64,29 @@ fn a_pattern_is_held_in_its_cells(rt: HostRuntime) -> Result<(), Fail> {
 }
 
 #[test]
+fn patterns_of_four_and_five_points(rt: HostRuntime) -> Result<(), Fail> {
+    let alloc = rt.alloc();
+    let whole = Gridded::of(alloc, &[1, 3, 4, 0, 2], &[cell(7, 7); 5])?;
+    let held = Gridded::of(alloc, &[1, 3, 0, 2], &[cell(7, 7); 4])?;
+    let apart = Gridded::of(alloc, &[0, 1, 2, 3], &[cell(7, 7); 4])?;
+    assert!(rt; holds(&whole, &held));
+    assert!(rt; !holds(&whole, &apart));
+    assert!(rt; holds(&whole, &whole));
+    Ok(())
+}
+
+#[test]
+fn cells_beyond_eight_are_told_apart(rt: HostRuntime) -> Result<(), Fail> {
+    // 8x + y of the two is one number.
+    let high = Gridded::point_at(cell(0, 8));
+    let right = Gridded::point_at(cell(1, 0));
+    assert!(rt; !holds(&high, &right));
+    assert!(rt; !holds(&right, &high));
+    assert!(rt; holds(&high, &high));
+    Ok(())
+}
+
+#[test]
 fn small_patterns_are_made(rt: HostRuntime) -> Result<(), Fail> {
     let lower = cell(0, 0);
     let upper = cell(1, 1);

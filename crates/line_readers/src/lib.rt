@@ -22,6 +22,8 @@ mod term;
 #[cfg(test)]
 mod tests;
 mod trace;
+#[cfg(test)]
+mod value_tests;
 mod words;
 
 pub use class_lines::{obs_line, req_line};

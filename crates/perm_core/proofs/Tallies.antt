@@ -1,7 +1,7 @@
 -- Counts of the words that begin with some letters.
 use Rattle.std.proofs.Common.{◌≡◌, ℕ, zero, suc, ◌+◌, ◌-◌, ◌*◌, ◌^◌, ◌<◌, ◌≤◌, Bool, true, false, cond, List, [], ◌∷◌, ◌++◌, length, refl, sym, ap, ◌∙◌, arith, length-append, append_assoc, zero-add, add-zero, rules, Fits, w64, ⊎_elim}
 use Rattle.std.specs.Prelude.{◌==◌, not, map, count_by, sum_by}
-use Rattle.std.specs.List.{range_with_len, flat_map, list_any, filter}
+use Rattle.std.specs.List.{range_with_len, flat_map, list_any}
 use Rattle.std.proofs.lemmas.List.{map-append, map-id, append-nil, length-map}
 use Rattle.std.proofs.lemmas.List.Sums.{sum_by-append, sum_by-cons, count_by-le-length, length-filter}
 use Rattle.std.proofs.lemmas.List.FromFn.{length-range_with_len}

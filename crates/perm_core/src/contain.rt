@@ -1,8 +1,10 @@
 ghost use Rattle.std.specs.Prelude.{◌≡◌, ◌↔◌, ◌≤◌, true, length, take, drop, IsTrue};
 ghost use Rattle.patterns.specs.Occurs.{contains, Contains};
 ghost use Rattle.patterns.specs.Search.{is_found};
+ghost use Rattle.patterns.specs.Words.{has_no_repeats};
 
 use crate::perm::Perm;
+use kernels::occurs;
 use patterns::fits_next;
 
 /// Whether the rest of the pattern is found in the word from a place on, after some letters were chosen.
@@ -27,13 +29,22 @@ fn extends(whole: &[u8], pattern: &[u8], chosen: [u8; 9], taken: usize, from: us
         || extends(whole, pattern, chosen, taken, from + 1)
 }
 
-/// Whether some letters of a word stand in the pattern's order.
+/// Whether some letters of a word stand in the pattern's order. Neither has a letter twice. A pattern of 1 to
+/// 4 letters is looked for by the loops made for its length.
 #[tactic(auto, using(crate::proofs::Searches::starting))]
 pub(crate) fn word_contains(whole: &[u8], pattern: &[u8]) -> bool
-    requires { length pattern.now ≤ 9 }
+    requires short { length pattern.now ≤ 9 }
+    requires letters_differ { IsTrue (has_no_repeats pattern.now) }
+    requires word_differs { IsTrue (has_no_repeats whole.now) }
     ensures { result ≡ contains whole.now pattern.now }
 {
-    extends(whole, pattern, [0; 9], 0, 0)
+    match pattern {
+        [a] => occurs(&[*a], whole),
+        [a, b] => occurs(&[*a, *b], whole),
+        [a, b, c] => occurs(&[*a, *b, *c], whole),
+        [a, b, c, d] => occurs(&[*a, *b, *c, *d], whole),
+        _ => extends(whole, pattern, [0; 9], 0, 0),
+    }
 }
 
 /// Whether the permutation contains the pattern: letters at some rising places of it stand in the

@@ -7,8 +7,9 @@ use crate::contain::word_contains;
 use crate::perm::Perm;
 use std::alloc::{AllocError, Global};
 
-/// Whether a word contains no word of the basis.
+/// Whether a word without repeats contains no word of the basis.
 fn avoids(basis: &[Perm], word: &[u8]) -> bool
+    requires { IsTrue (has_no_repeats word.now) }
     ensures { result ≡ avoids basis.now word.now }
 {
     basis

@@ -50,6 +50,11 @@ fn containment(rt: HostRuntime) -> Result<(), Fail> {
     let apart = Perm::of(alloc, [0, 1, 2].as_slice())?;
     assert!(rt; contains(&whole, &held));
     assert!(rt; !contains(&whole, &apart));
+    let longer = Perm::of(alloc, [1, 3, 4, 0, 2].as_slice())?;
+    let rising = Perm::of(alloc, [0, 1, 2, 3].as_slice())?;
+    assert!(rt; contains(&longer, &whole));
+    assert!(rt; !contains(&longer, &rising));
+    assert!(rt; contains(&longer, &longer));
     Ok(())
 }
 

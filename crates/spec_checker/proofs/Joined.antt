@@ -3,6 +3,7 @@ use Rattle.std.proofs.Common.{◌≡◌, ◌<◌, ℕ, List, length, refl, sym, 
 use Rattle.std.specs.Prelude.{Option, option_map, All, map, slice_get, slice_index, Some, None}
 use Rattle.std.proofs.lemmas.List.{length-map}
 use Rattle.std.proofs.lemmas.Option.{slice_get_within}
+use Rattle.lists.specs.Members.{IsIn}
 use Rattle.lists.proofs.Members.{of_all, all_in}
 use Rattle.lists.proofs.Places.{at_place, get-map, from_get-map, index_is, place_of, IsIn-slice_get}
 use Rattle.tiling_core.specs.Tiles.{Tiles}
@@ -44,6 +45,10 @@ module _ (entries : List (Entry Tiles TilingRule)) (e : Entry Tiles TilingRule) 
 -- the entry at a place is joined
 pub joined_at : (entries : List (Entry Tiles TilingRule)) (i : ℕ) (e : Entry Tiles TilingRule) → AreJoined entries → slice_get entries i ≡ Some e → IsJoined entries e
 joined_at entries i e all at = of_all (λ d. IsJoined entries d) all (IsIn-slice_get entries i e at)
+
+-- each entry names as many entries as its rule has children
+pub as_many_each : (entries : List (Entry Tiles TilingRule)) → AreJoined entries → (e : Entry Tiles TilingRule) → IsIn e entries → length e.children ≡ length e.rule.children
+as_many_each entries all e i = as_many entries e (of_all (λ d. IsJoined entries d) all i)
 
 module _ (entries : List (Entry Tiles TilingRule)) (all : AreJoined entries) where
   rule_right : (i : ℕ) (e : Entry Tiles TilingRule) → slice_get entries i ≡ Some e → IsRuleRight entries i e → fault.IsRuleRight tile_meaning entries i e

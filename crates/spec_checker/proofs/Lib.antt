@@ -5,7 +5,6 @@ pub mod Seen
 pub mod Joined
 pub mod Roots
 pub mod Telling
-pub mod Flags
 pub mod Counted
 pub mod Once
 pub mod Judged

@@ -1,6 +1,6 @@
 -- What is found of a file is said of its bytes.
 use Rattle.std.proofs.Common.{◌≡◌, ℕ, List, length, ap, ◌∙◌, refl}
-use Rattle.std.specs.Prelude.{◌≢◌, option_map, Result, Ok, Err, IfOk, IfErr}
+use Rattle.std.specs.Prelude.{◌≢◌, option_map, Result, Ok, Err, IsOk, IfOk, IfErr}
 use Rattle.lists.proofs.Places.{at_place}
 use Rattle.tiling_core.specs.Tiles.{Tiles}
 use Rattle.css_domain.specs.Entries.{Entry}
@@ -12,9 +12,10 @@ use Rattle.spec_text.specs.Joined.{IsReadSpec}
 use Rattle.spec_checker.specs.declared.verdict.Checked.{Checked}
 use Rattle.spec_checker.specs.declared.verdict.CheckFault.{CheckFault}
 use Rattle.spec_checker.specs.declared.verdict.CheckFault.TheVariants as fault
-use Rattle.spec_checker.specs.Accepting.{IsSpecified, IsAccepted, AreCounts}
+use Rattle.spec_checker.specs.Accepting.{IsSpecified, Accepts, IsAccepted, AreCounts}
 use Rattle.spec_checker.specs.Refusing.{IsRefused, UnlessMemory}
 use Rattle.spec_checker.specs.Laws.{AcceptedOrRefused, RefusedOnce}
+use Rattle.spec_checker.specs.Pieces.{IsFoundOut}
 use Rattle.spec_checker.specs.Passing.{IsRightInRanks, IsJudged}
 use Rattle.spec_checker.proofs.Joined.{spec_by_rules, hold_by_rules}
 use Rattle.spec_checker.proofs.Counted.{counts_of_avoiders}
@@ -56,7 +57,7 @@ module _ (basis : List (List ℕ)) (bytes : Text) (f : SpecFile) (read : IsReadS
   counts_judged law (Err e) h = tt
 
 -- a text that has a fault is refused with it, unless memory ran out
-pub refuses_of : AcceptedOrRefused → RefusedOnce → (basis : List (List ℕ)) (bytes : Text) (r : Result Checked CheckFault) → IfOk r (λ c. IsAccepted basis bytes c.entries c.terms.items) → IfErr r (λ why. IsRefused basis bytes why)
+refuses_of : AcceptedOrRefused → RefusedOnce → (basis : List (List ℕ)) (bytes : Text) (r : Result Checked CheckFault) → IfOk r (λ c. IsAccepted basis bytes c.entries c.terms.items) → IfErr r (λ why. IsRefused basis bytes why)
     → (why : CheckFault) → why ≢ fault.Memory → IsRefused basis bytes why → UnlessMemory r (r ≡ Err why)
 refuses_of both once basis bytes (Ok c) a b why m h = absurd (both basis bytes why m (a.file, a.accepted) h)
 refuses_of both once basis bytes (Err (fault.Grammar n)) a b why m h = ap (λ w. Err w) (once basis bytes (fault.Grammar n) why (λ e. absurd cc) m b h)
@@ -67,3 +68,25 @@ refuses_of both once basis bytes (Err (fault.Rule i)) a b why m h = ap (λ w. Er
 refuses_of both once basis bytes (Err (fault.Rank i k)) a b why m h = ap (λ w. Err w) (once basis bytes (fault.Rank i k) why (λ e. absurd cc) m b h)
 refuses_of both once basis bytes (Err (fault.Terms n)) a b why m h = ap (λ w. Err w) (once basis bytes (fault.Terms n) why (λ e. absurd cc) m b h)
 refuses_of both once basis bytes (Err fault.Memory) a b why m h = tt
+
+-- and one that is accepted is not refused
+accepts_of : AcceptedOrRefused → (basis : List (List ℕ)) (bytes : Text) (r : Result Checked CheckFault) → IfErr r (λ why. IsRefused basis bytes why) → Accepts basis bytes → UnlessMemory r (IsOk r)
+accepts_of both basis bytes (Ok c) b h = refl
+accepts_of both basis bytes (Err (fault.Grammar n)) b h = absurd (both basis bytes (fault.Grammar n) (λ e. absurd cc) h b)
+accepts_of both basis bytes (Err (fault.Limit n)) b h = absurd (both basis bytes (fault.Limit n) (λ e. absurd cc) h b)
+accepts_of both basis bytes (Err fault.OtherBasis) b h = absurd (both basis bytes fault.OtherBasis (λ e. absurd cc) h b)
+accepts_of both basis bytes (Err fault.Root) b h = absurd (both basis bytes fault.Root (λ e. absurd cc) h b)
+accepts_of both basis bytes (Err (fault.Rule i)) b h = absurd (both basis bytes (fault.Rule i) (λ e. absurd cc) h b)
+accepts_of both basis bytes (Err (fault.Rank i k)) b h = absurd (both basis bytes (fault.Rank i k) (λ e. absurd cc) h b)
+accepts_of both basis bytes (Err (fault.Terms n)) b h = absurd (both basis bytes (fault.Terms n) (λ e. absurd cc) h b)
+accepts_of both basis bytes (Err fault.Memory) b h = tt
+
+-- all that is found of a text
+pub found_out : AcceptedOrRefused → RefusedOnce → (basis : List (List ℕ)) (bytes : Text) (r : Result Checked CheckFault) → IfOk r (λ c. IsAccepted basis bytes c.entries c.terms.items) → IfErr r (λ why. IsRefused basis bytes why) → IfOk r (λ c. AreCounts basis c.terms.items) → IsFoundOut basis bytes r
+found_out both once basis bytes r accepted refused counts = record {
+  accepted = accepted;
+  accepts = accepts_of both basis bytes r refused;
+  refused = refused;
+  refuses = refuses_of both once basis bytes r accepted refused;
+  counts = counts;
+}

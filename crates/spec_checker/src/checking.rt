@@ -1,9 +1,11 @@
-ghost use Rattle.std.specs.Prelude.{◌≡◌, ◌≢◌, ◌≤◌, ◌↔◌, ℕ, IsTrue, IsOk, IfOk, IfErr, Err, length};
+ghost use Rattle.std.specs.Prelude.{◌≡◌, ◌≢◌, ◌≤◌, ◌↔◌, ◌+◌, ◌++◌, ℕ, List, [], IsTrue, IsOk, IfOk, IfErr, OnOk, OnErr, Err, length};
 ghost use Rattle.perm_core.specs.Basis.{IsBasis};
-ghost use Rattle.spec_text.specs.Joined.{AreJoined};
+ghost use Rattle.spec_text.specs.Joined.{AreJoined, IsReadAs};
 ghost use Rattle.spec_checker.specs.Accepting.{Accepts, IsAccepted, AreCounts};
 ghost use Rattle.spec_checker.specs.Refusing.{IsRefused, UnlessMemory};
 ghost use Rattle.spec_checker.specs.Passing.{IsJudged};
+ghost use Rattle.spec_checker.specs.Pieces.{HasReadFor, IsFoundOut};
+ghost use Rattle.spec_reader.specs.Pieces.{HasReadBytes};
 
 use crate::counts::{counts_of, first_difference};
 use crate::law::verdicts_are_one;
@@ -14,8 +16,10 @@ use crate::verdict::{CheckFault, Checked};
 use basis_terms::exact_terms_are_avoiders;
 use css_terms::Term;
 use perm_core::Perm;
-use spec_text::{SpecFile, TextFault, read_spec};
-use std::alloc::Global;
+use sequences::{Copied, Sequence};
+use spec_text::{PieceReader, SpecFile, TextFault, finish_spec};
+use std::alloc::{AllocError, Global};
+use std::marker::Model;
 
 /// Whether the words are the same.
 #[tactic(auto, using(crate::proofs::Same::words_decide))]
@@ -58,21 +62,106 @@ fn judge(alloc: Global, basis: &[Perm], file: &SpecFile) -> Result<Checked, Chec
     })
 }
 
-/// Reads a text and judges it.
+/// The refusal of a text that is not read.
+fn unread(fault: TextFault) -> CheckFault
+    ensures { (basis : List (List ℕ)) (bytes : List ℕ) → IsReadAs bytes (Err fault) → IsRefused basis bytes result }
+{
+    match fault {
+        TextFault::Grammar { line } => CheckFault::Grammar { line },
+        TextFault::Limit { line } => CheckFault::Limit { line },
+        TextFault::Memory => CheckFault::Memory,
+    }
+}
+
+/// Judges what a reader has read.
+fn judge_read(alloc: Global, basis: &[Perm], reader: PieceReader) -> Result<Checked, CheckFault>
+    requires { IsBasis basis.now }
+    ensures { (bytes : List ℕ) → HasReadBytes bytes reader → IsFoundOut basis.now bytes result }
+{
+    exact_terms_are_avoiders();
+    verdicts_are_one();
+    match finish_spec(alloc, reader) {
+        Ok(file) => judge(alloc, basis, &file),
+        Err(fault) => Err(unread(fault)),
+    }
+}
+
+/// A text that is checked for a basis while it comes in pieces, cut anywhere (docs/FORMATS.md, "What the checker
+/// does"). It keeps what the lines say and the bytes of an unfinished line. Contracts see a relation between it, a
+/// basis and the list of the bytes that it has read, `HasReadFor`.
+#[derive(Drop)]
+pub struct Checking {
+    alloc: Global,
+    basis: Sequence<Perm>,
+    reader: PieceReader,
+}
+
+impl Model for Checking {
+    ghost use Rattle.perm_core.specs.Basis.{IsBasis};
+    ghost use Rattle.spec_checker.specs.Pieces.{CheckingState};
+
+    ghost Value = { CheckingState };
+
+    ghost view = { λ c. record { basis = c.basis; read = c.reader } };
+
+    ghost invariant = { λ c. IsBasis c.basis };
+}
+
+impl Checking {
+    /// No byte has been read. The refusal is want of memory.
+    pub fn new(alloc: Global, basis: &[Perm]) -> Result<Checking, AllocError>
+        requires { IsBasis basis.now }
+        ensures read { IfOk result (λ checking. HasReadFor basis.now [] checking) }
+        ensures many { IfOk result (λ checking. checking.read.many ≡ 0) }
+    {
+        let basis = Sequence::of(Perm::copy_all(basis, alloc)?);
+        Ok(Checking {
+            alloc,
+            basis,
+            reader: PieceReader::new(alloc),
+        })
+    }
+
+    /// How many bytes have been read. Takes no memory.
+    pub fn bytes_read(&self) -> u32
+        ensures { result ≡ self.now.read.many }
+    {
+        self.reader.bytes_read()
+    }
+
+    /// Goes on with a piece; all pieces together have at most 268,435,456 bytes. The refusal is want of memory, and
+    /// then nothing has changed.
+    pub fn feed(&mut self, piece: &[u8]) -> Result<(), AllocError>
+        requires few { self.old.read.many + length piece.now ≤ 268435456 }
+        ensures read { OnOk result ((basis : List (List ℕ)) (bytes : List ℕ) → HasReadFor basis bytes self.old → HasReadFor basis (bytes ++ piece.now) self.new) }
+        ensures many { OnOk result (self.new.read.many ≡ self.old.read.many + length piece.now) }
+        ensures stays { OnErr result (self.new ≡ self.old) }
+    {
+        self.reader.feed(piece)
+    }
+
+    /// What is found of the text that has been read, as `checked` tells.
+    pub fn finish(self) -> Result<Checked, CheckFault>
+        ensures { (basis : List (List ℕ)) (bytes : List ℕ) → HasReadFor basis bytes self → IsFoundOut basis bytes result }
+    {
+        let Checking {
+            alloc,
+            basis,
+            reader,
+        } = self;
+        judge_read(alloc, basis.as_slice(), reader)
+    }
+}
+
+/// Reads a text at once and judges it.
 fn read_and_judge(alloc: Global, basis: &[Perm], bytes: &[u8]) -> Result<Checked, CheckFault>
     requires basis { IsBasis basis.now }
     requires few { length bytes.now ≤ 268435456 }
-    ensures accepted { IfOk result (λ c. IsAccepted basis.now bytes.now c.entries c.terms.items) }
-    ensures refused { IfErr result (λ fault. IsRefused basis.now bytes.now fault) }
-    ensures counts { IfOk result (λ c. AreCounts basis.now c.terms.items) }
+    ensures { IsFoundOut basis.now bytes.now result }
 {
-    exact_terms_are_avoiders();
-    match read_spec(alloc, bytes) {
-        Ok(file) => judge(alloc, basis, &file),
-        Err(TextFault::Grammar { line }) => Err(CheckFault::Grammar { line }),
-        Err(TextFault::Limit { line }) => Err(CheckFault::Limit { line }),
-        Err(TextFault::Memory) => Err(CheckFault::Memory),
-    }
+    let mut checking = Checking::new(alloc, basis)?;
+    checking.feed(bytes)?;
+    checking.finish()
 }
 
 /// Checks a text of at most 268,435,456 bytes for a basis as `read_basis` gives it: whether it has a specification of
@@ -87,7 +176,6 @@ pub fn checked(alloc: Global, basis: &[Perm], bytes: &[u8]) -> Result<Checked, C
     ensures refuses { (fault : CheckFault) → fault ≢ CheckFault.Memory → IsRefused basis.now bytes.now fault → UnlessMemory result (result ≡ Err fault) }
     ensures counts { IfOk result (λ c. AreCounts basis.now c.terms.items) }
 {
-    verdicts_are_one();
     read_and_judge(alloc, basis, bytes)
 }
 

@@ -1,60 +1,14 @@
-ghost use Rattle.std.specs.Prelude.{◌≡◌, ◌≤◌, ◌<◌, ◌^◌, ◌↔◌, IsTrue, length, map, zip, slice_get, Some, IfOk, IfNone, IfSome};
-ghost use Rattle.tiling_core.specs.Measures.{is_positive};
+ghost use Rattle.std.specs.Prelude.{◌≡◌, ◌≤◌, ◌<◌, ◌^◌, ◌↔◌, IsTrue, length, slice_get, Some, IfOk, IfNone, IfSome};
 ghost use Rattle.css_domain.specs.Entries.{IsSpec, AllHold};
-ghost use Rattle.css_terms.specs.SpecRows.{row_of, rows_of};
 ghost use Rattle.tile_rules.specs.Meaning.{tile_meaning};
 ghost use Rattle.spec_text.specs.Joined.{AreJoined};
 ghost use Rattle.spec_checker.specs.Accepting.{capped_counts};
 ghost use Rattle.spec_checker.specs.Refusing.{IsFirstDifference};
 
-use css_domain::Domain;
 use css_prune::Entry;
-use css_terms::{Row, Term, specs_have_rows, terms_of_rows};
-use sequences::Sequence;
+use css_terms::{Term, rows_of, specs_have_rows, terms_of_rows};
 use std::alloc::{AllocError, Global};
 use tile_rules::Tiles;
-use tiling_core::{Tiling, positive};
-
-/// The numbers, each with whether the tiling beside it is positive.
-fn flagged(
-    alloc: Global,
-    numbers: &[u32],
-    tilings: &[Tiling],
-) -> Result<Vec<(u32, bool)>, AllocError>
-    requires { length numbers.now ≡ length tilings.now }
-    ensures { IfOk result (λ children. children.items ≡ zip numbers.now (map is_positive tilings.now)) }
-{
-    let mut children = Vec::with_capacity(alloc, numbers.len())?;
-    for slot in 0..numbers.len() {
-        children.push((numbers[slot], positive(&tilings[slot])))?;
-    }
-    Ok(children)
-}
-
-/// The row of an entry.
-fn row_of(alloc: Global, entry: &Entry<Tiles>) -> Result<Row, AllocError>
-    requires { length entry.now.children ≡ length entry.now.rule.children }
-    ensures { IfOk result (λ row. row ≡ row_of tile_meaning entry.now) }
-{
-    let children = flagged(alloc, entry.children.as_slice(), entry.rule.children())?;
-    Ok(Row {
-        shape: Tiles::shape(&entry.rule),
-        children: Sequence::of(children),
-        rank: entry.rank,
-    })
-}
-
-/// The rows of entries.
-fn rows_of(alloc: Global, entries: &[Entry<Tiles>]) -> Result<Vec<Row>, AllocError>
-    requires { AreJoined entries.now }
-    ensures { IfOk result (λ rows. rows.items ≡ rows_of tile_meaning entries.now) }
-{
-    let mut rows = Vec::with_capacity(alloc, entries.len())?;
-    for entry in entries {
-        rows.push(row_of(alloc, entry)?)?;
-    }
-    Ok(rows)
-}
 
 /// The capped counts of entry 0 for so many lengths, as far as the first Big.
 pub(crate) fn counts_of(
@@ -71,7 +25,7 @@ pub(crate) fn counts_of(
     ensures { IfOk result (λ counts. counts.items ≡ capped_counts entries.now many) }
 {
     specs_have_rows::<Tiles>();
-    let rows = rows_of(alloc, entries)?;
+    let rows = rows_of::<Tiles>(alloc, entries)?;
     terms_of_rows(alloc, rows.as_slice(), many as u32 - 1)
 }
 

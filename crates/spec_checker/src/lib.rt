@@ -5,7 +5,11 @@
 mod checking;
 mod counts;
 mod law;
+#[cfg(test)]
+mod longer_tests;
 mod named;
+#[cfg(test)]
+mod piece_tests;
 mod ranks;
 mod root;
 mod rules;
@@ -13,6 +17,6 @@ mod rules;
 mod tests;
 mod verdict;
 
-pub use checking::{check, checked};
+pub use checking::{Checking, check, checked};
 pub use law::{counts_are_by_rules, verdicts_are_one};
 pub use verdict::{CheckFault, Checked};

@@ -6,10 +6,11 @@ use Rattle.spec_lines.specs.Lines.{Text}
 use Rattle.spec_lines.specs.Items.{items, finished, rest_of, lines_of, tail_of}
 use Rattle.spec_lines.specs.Forms.{has_items}
 use Rattle.spec_lines.specs.Machine.{step}
-use Rattle.spec_lines.specs.Faults.{answer, IsSpelled}
+use Rattle.spec_lines.specs.Faults.{answer, IsSpelled, IsGrammarFault}
 use Rattle.spec_lines.proofs.Faulty.{spelled_is_answered, grammar_is_answered, limit_is_answered}
 use Rattle.spec_lines.specs.Faults.Answer.{Grammar}
 use Rattle.spec_reader.specs.Walks.{ReaderState, HasRead}
+use Rattle.spec_reader.specs.Pieces.{IsOnItsWay, IsStuck}
 use Rattle.spec_reader.specs.Ends.{ends, IsEnd, IsAnswered}
 use Rattle.spec_reader.specs.declared.files.SpecText.{SpecText}
 use Rattle.spec_reader.specs.declared.files.TextFault.{TextFault}
@@ -17,7 +18,7 @@ use Rattle.spec_reader.specs.declared.files.TextFault.TheVariants as fault
 use Rattle.spec_reader.proofs.Walked.{stuck}
 use Rattle.spec_reader.proofs.Answering.{answers_grammar, answers_limit, answers_spelled}
 
-finished_more : (t : Text) (us : List Text) → has_items us ≡ true → (finished (t ∷ us) ≡ t ∷ finished us) × (rest_of (t ∷ us) ≡ rest_of us)
+pub finished_more : (t : Text) (us : List Text) → has_items us ≡ true → (finished (t ∷ us) ≡ t ∷ finished us) × (rest_of (t ∷ us) ≡ rest_of us)
 finished_more t [] h = absurd (true≢false (sym h))
 finished_more t (u ∷ us) h = (refl, refl)
 
@@ -25,7 +26,7 @@ has_some : (n : ℕ) (ts : List Text) → length ts ≡ n + 1 → has_items ts �
 has_some n [] h = absurd (omega (arith, h))
 has_some n (t ∷ ts) h = refl
 
-some_items : (byte : ℕ) (text : Text) → has_items (items byte text) ≡ true
+pub some_items : (byte : ℕ) (text : Text) → has_items (items byte text) ≡ true
 some_items byte text = has_some _ (items byte text) (length-slice_split (λ b. nat_eq b byte) text)
 
 -- the first line is cut off
@@ -38,13 +39,6 @@ line_off text line rest h =
 pub no_line : (text line : Text) → items 10 text ≡ line ∷ [] → (lines_of text ≡ []) × (tail_of text ≡ line)
 no_line text line h = (ap finished h, ap rest_of h)
 
--- the reader has read the lines of the bytes that stand before the rest
-pub record IsOnItsWay (bytes rest : Text) (s : ReaderState) : Type 0 where
-  pub before : List Text
-  pub read : HasRead before s
-  pub lines : lines_of bytes ≡ before ++ lines_of rest
-  pub tail : tail_of bytes ≡ tail_of rest
-
 pub way_on : (bytes text line rest : Text) (s t : ReaderState) → IsOnItsWay bytes text s → items 10 text ≡ line ∷ items 10 rest → ((lines : List Text) → HasRead lines s → HasRead (lines ++ line ∷ []) t) → IsOnItsWay bytes rest t
 way_on bytes text line rest s t w cut on =
     let off = line_off text line rest cut in
@@ -55,9 +49,18 @@ way_on bytes text line rest s t w cut on =
       tail = w.tail ∙ off.1;
     }
 
-pub stuck_here : (bytes text line rest : Text) (s : ReaderState) → IsOnItsWay bytes text s → items 10 text ≡ line ∷ items 10 rest → step s.place line ≡ None → answer bytes ≡ Grammar (s.lines + 1)
-stuck_here bytes text line rest s w cut none =
-    stuck bytes w.before (lines_of rest) line s w.read none (w.lines ∙ ap (λ ls. w.before ++ ls) ((line_off text line rest cut).0))
+pub stuck_here : (bytes text line rest : Text) (s : ReaderState) → IsOnItsWay bytes text s → items 10 text ≡ line ∷ items 10 rest → step s.place line ≡ None → IsStuck bytes s
+stuck_here bytes text line rest s w cut none = record {
+  before = w.before;
+  line = line;
+  more = lines_of rest;
+  read = w.read;
+  wrong = none;
+  lines = w.lines ∙ ap (λ ls. w.before ++ ls) ((line_off text line rest cut).0);
+}
+
+pub stuck_is_answered : (bytes : Text) (s : ReaderState) (number : ℕ) → IsStuck bytes s → number ≡ s.lines + 1 → IsGrammarFault bytes number
+stuck_is_answered bytes s number k e = (grammar_is_answered bytes number).1 (stuck bytes k.before k.more k.line s k.read k.wrong k.lines ∙ ap Grammar (sym e))
 
 ended_by : (bytes line : Text) (s : ReaderState) (r : Result SpecText TextFault) → HasRead (lines_of bytes) s → tail_of bytes ≡ line → IsEnd s line r → IsAnswered bytes r
 ended_by bytes line s (Ok f) h tail e = record {

@@ -26,8 +26,8 @@ use Rattle.spec_lines.proofs.Ascents.{ascends_sorted}
 use Rattle.line_readers.specs.Answers.{nothing_else}
 use Rattle.spec_reader.specs.declared.values.LineValue.{LineValue}
 use Rattle.spec_reader.specs.declared.values.LineValue.TheVariants as value
-use Rattle.spec_reader.specs.Drafts.{Built, drafted, start_lines, done_lines, seen_of, AreParts, is_child, begun_entry, ended, with_value, taken, MayEnd}
-use Rattle.spec_reader.specs.Kept.{AreChildren, IsCounted, IsSound}
+use Rattle.spec_reader.specs.Drafts.{Built, drafted, start_lines, done_lines, seen_of, AreParts, is_child, begun_entry, ended, with_value, taken}
+use Rattle.spec_reader.specs.Kept.{AreChildren, IsCounted, IsSound, IsWhole}
 use Rattle.spec_reader.specs.Values.{value_of}
 use Rattle.spec_reader.proofs.Grown.{one_more_entry, child_added}
 
@@ -90,11 +90,11 @@ pub record Ends (i left : ℕ) (b : Built) : Type 0 where
   pub not_child : is_child (entry_or_terms (suc i) left) ≡ false
   pub lines : drafted (entry_or_terms (suc i) left) (ended b) ≡ done_lines b ++ lines_of_entry (length b.entries) (begun_entry b)
 
-ending : (i left : ℕ) (b : Built) → b.count ≤ 4294967296 → IsCounted i left b → All (λ e. AreChildren b.count e.children e.traces) b.entries → AreChildren b.count b.children b.traces → Ends i left b
+ending : (i left : ℕ) (b : Built) → b.count ≤ 4294967296 → IsCounted i left b → All (λ e. IsWhole b.count e) b.entries → IsWhole b.count (begun_entry b) → Ends i left b
 ending i zero b few k each own = record {
   sound = record {
     built = let n = length-append b.entries (begun_entry b ∷ []) in omega (arith, n, k.many, k.count);
-    each = All-push (λ x. AreChildren b.count x.children x.traces) b.entries (begun_entry b) each own;
+    each = All-push (λ x. IsWhole b.count x) b.entries (begun_entry b) each own;
     few = few;
   };
   not_child = refl;
@@ -103,7 +103,7 @@ ending i zero b few k each own = record {
 ending i (suc left) b few k each own = record {
   sound = record {
     built = record { many = let n = length-append b.entries (begun_entry b ∷ []) in omega (arith, n, k.many); count = omega (arith, k.count) };
-    each = All-push (λ x. AreChildren b.count x.children x.traces) b.entries (begun_entry b) each own;
+    each = All-push (λ x. IsWhole b.count x) b.entries (begun_entry b) each own;
     few = few;
   };
   not_child = refl;
@@ -142,7 +142,7 @@ on_rule i left (suc n) k b s = record {
 on_rule i left zero k b s =
     let b1 = with_value (value.Rule k) b in
     entry_ends i left (AtRule i left) (value.Rule k) b b1 (λ g e. rule_ends k g b e) refl
-    (ending i left b1 s.few (record { many = s.built.counted.many; count = s.built.counted.count }) s.each (no_children b.count))
+    (ending i left b1 s.few (record { many = s.built.counted.many; count = s.built.counted.count }) s.each (no_children b.count, s.built.parts))
     (sym (append_assoc (done_lines b) (front_lines b) (LineRule k ∷ [])))
 
 more_children : (c : ℕ) (t : _) (b : Built) → c < b.count → AreChildren b.count b.children b.traces → AreChildren b.count (b.children ++ c ∷ []) (b.traces ++ t ∷ [])
@@ -165,7 +165,7 @@ on_child i left more (suc n) c t b less s = record {
 on_child i left more zero c t b less s =
     let b1 = with_value (value.Child c t) b in
     entry_ends i left (AtChild i left more) (value.Child c t) b b1 (λ g e. child_ends c t g b e) refl
-    (ending i left b1 s.few (record { many = s.built.0.counted.many; count = s.built.0.counted.count }) s.each (more_children c t b less s.built.1))
+    (ending i left b1 s.few (record { many = s.built.0.counted.many; count = s.built.0.counted.count }) s.each (more_children c t b less s.built.1, s.built.0.parts))
     (child_lines c t b i left more s.built.1)
 
 -- ====== any line ======
@@ -184,7 +184,7 @@ on_count zero b some most s = absurd (omega (arith, some))
 on_count (suc n) b some most s = record {
   sound = record {
     built = record { many = ap length s.built; count = omega arith };
-    each = subst (λ es. All (λ e. AreChildren (suc n) e.children e.traces) es) (sym s.built) (All-nil _);
+    each = subst (λ es. All (λ e. IsWhole (suc n) e) es) (sym s.built) (All-nil _);
     few = omega (arith, most);
   };
   seen = refl;
@@ -263,16 +263,6 @@ on (AtChild i left more) q (value.Child c t) b e l r s = subst (λ x. GoesOn (At
 on AtTerms q (value.Terms terms) b e l r s = subst (λ x. GoesOn AtTerms x (value.Terms terms) b) (same_Some AtEnd q e) (record { sound = record { built = s.built; each = s.each; few = s.few }; seen = refl; lines = refl })
 on AtEnd q value.End b e l r s = subst (λ x. GoesOn AtEnd x value.End b) (same_Some Done q e) (record { sound = record { built = s.built; each = s.each; few = s.few }; seen = refl; lines = sym (append_assoc (done_lines b) (LineTerms b.terms ∷ []) (LineEnd ∷ [])) })
 on p q v b e l r s = absurd (none-some q e)
-
--- an entry that may end has parts that make a tiling
-pub may_end : (p : Place) (v : LineValue) (goes_on : Bool) (b : Built) → is_some (after p (value_of v)) ≡ true → IsSound p b → MayEnd v goes_on b
-may_end (AtRule i left) (value.Rule k) false b e s = s.built.parts
-may_end p (value.Rule k) true b e s = tt
-may_end p (value.Rule k) false b e s = absurd (true≢false (sym e))
-may_end (AtChild i left more) (value.Child c t) false b e s = s.built.0.parts
-may_end p (value.Child c t) true b e s = tt
-may_end p (value.Child c t) false b e s = absurd (true≢false (sym e))
-may_end p v goes_on b e s = tt
 
 -- ====== out of any range ======
 contra : (x y : Bool) → (y ≡ true → x ≡ true) → x ≡ false → y ≡ false

@@ -91,12 +91,23 @@ begun_entry b = record {
   traces = b.traces;
 }
 
-abbrev pub without_patterns : Built → Built
-without_patterns b = record b { obstructions = []; requirements = [] }
+-- whose tiling can be made of its parts
+abbrev pub IsMakeable : FileEntry → Type 0
+IsMakeable e = AreParts e.class.width e.class.height e.class.obstructions e.class.requirements
+
+-- the entry that has begun is taken out
+abbrev pub cleared : Built → Built
+cleared b = record b { obstructions = []; requirements = []; kind = kinds.Unit; children = []; traces = [] }
+
+abbrev pub with_entries : List FileEntry → Built → Built
+with_entries entries b = record b { entries = entries }
 
 -- the entry that has begun has ended
 abbrev pub ended : Built → Built
 ended b = record b { entries = b.entries ++ begun_entry b ∷ []; obstructions = []; requirements = []; kind = kinds.Unit; children = []; traces = [] }
+
+abbrev pub with_child : ℕ → List Step → Built → Built
+with_child child trace b = record b { children = b.children ++ child ∷ []; traces = b.traces ++ trace ∷ [] }
 
 -- a value is noted
 abbrev pub with_value : LineValue → Built → Built
@@ -118,12 +129,10 @@ is_of_rule (value.Rule k) = true
 is_of_rule (value.Child child trace) = true
 is_of_rule _ = false
 
+-- a value is noted, and the entry has ended
+abbrev pub last_taken : LineValue → Built → Built
+last_taken v b = ended (with_value v b)
+
 -- a value is noted, and the entry has ended where a rule or a child has no further child after it
 abbrev pub taken : LineValue → Bool → Built → Built
 taken v goes_on b = cond (is_of_rule v) (cond goes_on (with_value v b) (ended (with_value v b))) (with_value v b)
-
--- the parts of an entry that ends
-abbrev pub MayEnd : LineValue → Bool → Built → Type 0
-MayEnd (value.Rule k) false b = AreParts b.width b.height b.obstructions b.requirements
-MayEnd (value.Child child trace) false b = AreParts b.width b.height b.obstructions b.requirements
-MayEnd v goes_on b = ⊤

@@ -1,12 +1,13 @@
-ghost use Rattle.std.specs.Prelude.{◌≡◌, ◌&&◌, [], true, OnOk, IfOk, nat_lt};
+ghost use Rattle.std.specs.Prelude.{◌≡◌, ◌&&◌, true, OnOk, OnErr, nat_lt};
 ghost use Rattle.std.specs.List.{list_all};
 ghost use Rattle.rule_kinds.specs.declared.kind.Kind.TheVariants.{Unit};
 ghost use Rattle.spec_lines.specs.Ranges.{is_inside};
 ghost use Rattle.line_readers.specs.Answers.{nothing_else};
-ghost use Rattle.spec_reader.specs.Drafts.{blank, seen_of, AreParts, MayEnd, begun_entry, without_patterns, ended, with_value, taken};
+ghost use Rattle.spec_reader.specs.Drafts.{blank, seen_of, with_child, begun_entry, cleared, with_entries, with_value, last_taken, taken};
 ghost use Rattle.spec_reader.specs.Values.{value_of};
 ghost use Rattle.spec_lines.specs.Ranges.{is_in_range};
 
+use crate::entries::{EntryParts, put};
 use crate::values::LineValue;
 use css_terms::Term;
 use gridded::{Cell, Gridded};
@@ -17,25 +18,6 @@ use std::alloc::{AllocError, Global};
 use std::marker::Model;
 use std::mem;
 use steps::Step;
-use tiling_core::Tiling;
-
-/// An entry whose children are named by their numbers.
-#[derive(Drop)]
-pub struct DraftEntry {
-    pub class: Tiling,
-    pub rank: u32,
-    pub kind: Kind,
-    pub children: Sequence<u32>,
-    pub traces: Sequence<Sequence<Step>>,
-}
-
-impl Model for DraftEntry {
-    ghost use Rattle.spec_lines.specs.Files.{FileEntry};
-
-    ghost Value = { FileEntry };
-
-    ghost view = { λ e. record { class = e.class; rank = e.rank; kind = e.kind; children = e.children; traces = e.traces } };
-}
 
 /// What the lines of a text that have been read say, as long as they are in range.
 #[derive(Drop)]
@@ -46,7 +28,7 @@ pub(crate) struct Draft {
     /// How many entries the text says that it has.
     pub(crate) count: u32,
     /// The entries that have been read to their end.
-    pub(crate) entries: Vec<DraftEntry>,
+    pub(crate) entries: Vec<EntryParts>,
     /// The rank of the entry that has begun, and so on with what is known of it.
     pub(crate) rank: u32,
     pub(crate) width: u8,
@@ -154,9 +136,21 @@ impl Draft {
         }
     }
 
-    /// Takes the value of the next line, which is in range.
+    /// One more child of the entry that has begun. After a refusal nothing has changed.
+    fn add_child(&mut self, child: u32, trace: Sequence<Step>) -> Result<(), AllocError>
+        ensures ok { OnOk result (self.new ≡ with_child child trace self.old) }
+        ensures err { OnErr result (self.new ≡ self.old) }
+    {
+        self.children.reserve(1)?;
+        self.traces.push(trace)?;
+        put(&mut self.children, child);
+        Ok(())
+    }
+
+    /// Takes the value of the next line, which is in range. After a refusal nothing has changed.
     pub(crate) fn add(&mut self, value: LineValue) -> Result<(), AllocError>
-        ensures { OnOk result (self.new ≡ with_value value self.old) }
+        ensures ok { OnOk result (self.new ≡ with_value value self.old) }
+        ensures err { OnErr result (self.new ≡ self.old) }
     {
         match value {
             LineValue::First | LineValue::End => {}
@@ -175,56 +169,59 @@ impl Draft {
                 self.children = Vec::new(self.alloc);
                 self.traces = Vec::new(self.alloc);
             }
-            LineValue::Child(child, trace) => {
-                self.children.push(child)?;
-                self.traces.push(trace)?;
-            }
+            LineValue::Child(child, trace) => return self.add_child(child, trace),
             LineValue::Terms(terms) => self.terms = terms,
         }
         Ok(())
     }
 
-    /// The class of the entry that has begun, whose patterns are taken out.
-    #[tactic(auto, using(crate::proofs::Parts::parts_stay))]
-    fn take_class(&mut self) -> Result<Tiling, AllocError>
-        requires { AreParts self.old.width self.old.height self.old.obstructions self.old.requirements }
-        ensures { IfOk result (λ class. (class ≡ (begun_entry self.old).class) × (self.new ≡ without_patterns self.old)) }
+    /// Takes out the entry that has begun.
+    fn take_entry(&mut self) -> EntryParts
+        ensures entry { result ≡ begun_entry self.old }
+        ensures cleared { self.new ≡ cleared self.old }
     {
         let obstructions = mem::replace(&mut self.obstructions, Vec::new(self.alloc));
         let requirements = mem::replace(&mut self.requirements, Vec::new(self.alloc));
-        let class = Tiling::in_grid(self.width, self.height, obstructions, requirements)?;
-        Ok(class)
-    }
-
-    /// The entry that has begun has ended.
-    pub(crate) fn finish_entry(&mut self) -> Result<(), AllocError>
-        requires { AreParts self.old.width self.old.height self.old.obstructions self.old.requirements }
-        ensures { OnOk result (self.new ≡ ended self.old) }
-    {
-        let class = self.take_class()?;
         let kind = mem::replace(&mut self.kind, Kind::Unit);
         let children = mem::replace(&mut self.children, Vec::new(self.alloc));
         let traces = mem::replace(&mut self.traces, Vec::new(self.alloc));
-        self.entries.push(DraftEntry {
-            class,
+        EntryParts {
+            width: self.width,
+            height: self.height,
+            obstructions,
+            requirements,
             rank: self.rank,
             kind,
             children: Sequence::of(children),
             traces: Sequence::of(traces),
-        })?;
+        }
+    }
+
+    /// Takes the value of the last line of the entry that has begun. After a refusal nothing has changed.
+    fn take_last(&mut self, value: LineValue) -> Result<(), AllocError>
+        ensures ok { OnOk result (self.new ≡ last_taken value self.old) }
+        ensures err { OnErr result (self.new ≡ self.old) }
+    {
+        self.entries.reserve(1)?;
+        let mut entries = mem::replace(&mut self.entries, Vec::new(self.alloc));
+        let Ok(()) = self.add(value) else {
+            self.entries = entries;
+            return Err(AllocError);
+        };
+        put(&mut entries, self.take_entry());
+        self.entries = entries;
         Ok(())
     }
 
-    /// Takes the value of the next line, which is in range; `goes_on` says whether a child is to come after it.
+    /// Takes the value of the next line, which is in range; `goes_on` says whether a child is to come after it. After
+    /// a refusal nothing has changed.
     pub(crate) fn take(&mut self, value: LineValue, goes_on: bool) -> Result<(), AllocError>
-        requires { MayEnd value goes_on self.old }
-        ensures { OnOk result (self.new ≡ taken value goes_on self.old) }
+        ensures ok { OnOk result (self.new ≡ taken value goes_on self.old) }
+        ensures err { OnErr result (self.new ≡ self.old) }
     {
-        let ends = value.is_of_rule() && !goes_on;
-        self.add(value)?;
-        if ends {
-            self.finish_entry()?;
+        if value.is_of_rule() && !goes_on {
+            return self.take_last(value);
         }
-        Ok(())
+        self.add(value)
     }
 }

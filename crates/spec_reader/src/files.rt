@@ -1,11 +1,11 @@
-ghost use Rattle.std.specs.Prelude.{◌≡◌, ◌≤◌, length, not};
+ghost use Rattle.std.specs.Prelude.{◌≡◌, ◌≤◌, ◌<◌, ◌+◌, ℕ, List, length, not};
 ghost use Rattle.spec_lines.specs.Forms.{has_items};
 ghost use Rattle.spec_reader.specs.Ends.{IsAnswered};
+ghost use Rattle.spec_reader.specs.Pieces.{IsOnItsWay};
 
-use crate::drafts::DraftEntry;
+use crate::entries::DraftEntry;
 use crate::reader::SpecReader;
-use crate::readers::cut;
-use crate::values::LineFault;
+use crate::taking::{Stop, take_lines};
 use css_terms::Term;
 use perm_core::Perm;
 use sequences::Sequence;
@@ -52,27 +52,34 @@ pub(crate) fn is_nothing(bytes: &[u8]) -> bool
     }
 }
 
+/// Why a reader takes no further line: no text has the one that is to come.
+pub(crate) fn next_line_is_wrong(reader: &SpecReader) -> TextFault
+    requires { reader.now.lines < 4294967295 }
+    ensures { result ≡ TextFault.Grammar (reader.now.lines + 1) }
+{
+    TextFault::Grammar {
+        line: reader.lines() + 1,
+    }
+}
+
+/// What the text says whose last bytes these are, after a reader has taken the lines before them.
+pub(crate) fn read_rest(mut reader: SpecReader, bytes: &[u8]) -> Result<SpecText, TextFault>
+    requires { reader.lines + length bytes.now ≤ 268435456 }
+    ensures { (text : List ℕ) → IsOnItsWay text bytes.now reader → IsAnswered text result }
+{
+    let (rest, stop) = take_lines(&mut reader, bytes);
+    match stop {
+        Stop::Unfinished => reader.finish(rest),
+        Stop::Refused => Err(TextFault::Memory),
+        Stop::Stuck => Err(next_line_is_wrong(&reader)),
+    }
+}
+
 /// Reads the text of a specification of at most 268,435,456 bytes (docs/FORMATS.md, "The text of a
 /// specification").
 pub fn read_text(alloc: Global, bytes: &[u8]) -> Result<SpecText, TextFault>
     requires { length bytes.now ≤ 268435456 }
     ensures { IsAnswered bytes.now result }
 {
-    let mut reader = SpecReader::new(alloc);
-    let mut rest = bytes;
-    loop {
-        let (line, behind) = cut(rest, b'\n');
-        let Some(behind) = behind else {
-            return reader.finish(line);
-        };
-        match reader.take_line(line) {
-            Ok(()) => rest = behind,
-            Err(LineFault::Form) => {
-                return Err(TextFault::Grammar {
-                    line: reader.lines() + 1,
-                });
-            }
-            Err(LineFault::Memory) => return Err(TextFault::Memory),
-        }
-    }
+    read_rest(SpecReader::new(alloc), bytes)
 }

@@ -2,16 +2,20 @@
 #![tactic(auto)]
 
 mod drafts;
+mod entries;
 mod files;
+mod pieces;
 mod places;
 mod reader;
 mod readers;
 mod reading;
+mod taking;
 #[cfg(test)]
 mod tests;
 mod values;
 
-pub use drafts::DraftEntry;
+pub use entries::DraftEntry;
 pub use files::{SpecText, TextFault, read_text};
+pub use pieces::PieceReader;
 pub use reader::SpecReader;
 pub use values::LineFault;

@@ -59,18 +59,22 @@ impl Position {
         }
     }
 
-    /// Whether a child is to come.
-    pub(crate) fn awaits_child(&self) -> bool
-        ensures { result ≡ is_child (place_of self.now) }
-    {
-        matches!(self.stage, Stage::Child)
-    }
-
     /// Whether no line is to come.
     pub(crate) fn is_done(&self) -> bool
         ensures { result ≡ is_done (place_of self.now) }
     {
         matches!(self.stage, Stage::Done)
+    }
+
+    /// Whether a child is to come after the next line, which says so much of those after it.
+    pub(crate) fn leads_to_child(&self, jump: &Jump) -> bool
+        ensures { result ≡ is_child (jumped (place_of self.now) jump.now) }
+    {
+        match (self.stage, jump) {
+            (Stage::Rule, Jump::Children(children)) => *children > 0,
+            (Stage::Child, _) => self.more > 0,
+            _ => false,
+        }
     }
 
     /// The entry of this number is to come, or the terms where there is none.

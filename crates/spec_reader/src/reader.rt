@@ -1,4 +1,4 @@
-ghost use Rattle.std.specs.Prelude.{◌≡◌, ◌<◌, ◌≤◌, ◌+◌, ◌++◌, ◌∷◌, [], List, ℕ, OnOk, IfErr, None, true, is_some, IsTrue};
+ghost use Rattle.std.specs.Prelude.{◌≡◌, ◌<◌, ◌≤◌, ◌+◌, ◌++◌, ◌∷◌, [], List, ℕ, OnOk, OnErr, IfErr, None, true, is_some, IsTrue};
 ghost use Rattle.spec_lines.specs.Follows.{after};
 ghost use Rattle.spec_lines.specs.Forms.{is_line};
 ghost use Rattle.spec_lines.specs.Machine.{step};
@@ -13,6 +13,7 @@ ghost use Rattle.spec_reader.specs.Walks.{Takes, HasRead};
 ghost use Rattle.spec_reader.specs.declared.values.LineFault.TheVariants.{Form};
 
 use crate::drafts::Draft;
+use crate::entries::all_made;
 use crate::files::{SpecText, TextFault, is_nothing};
 use crate::places::{Jump, Position};
 use crate::reading::read_line;
@@ -20,7 +21,6 @@ use crate::values::{LineFault, LineRead, LineValue};
 use sequences::Sequence;
 use std::alloc::{AllocError, Global};
 use std::marker::Model;
-use std::mem;
 
 /// What has been read of a text.
 #[derive(Drop)]
@@ -62,27 +62,31 @@ impl Reading {
         }
     }
 
-    /// A line has been gone over that is in range.
+    /// A line has been gone over that is in range. After a refusal nothing has changed.
     fn build(&mut self, value: LineValue) -> Result<(), AllocError>
         requires few { self.old.lines < 4294967295 }
         requires kept { IsKept self.old.position self.old.lines self.old.limit self.old.draft }
         requires value { MayTake (state_of self.old) (value_of value) }
         requires none { self.old.limit ≡ None }
         requires range { is_in_range (state_of self.old).seen (value_of value) ≡ true }
-        ensures { OnOk result (IsKept self.new.position self.new.lines self.new.limit self.new.draft × Advances (state_of self.old) (value_of value) (state_of self.new)) }
+        ensures ok { OnOk result (IsKept self.new.position self.new.lines self.new.limit self.new.draft × Advances (state_of self.old) (value_of value) (state_of self.new)) }
+        ensures err { OnErr result (self.new ≡ self.old) }
     {
-        self.position.move_on(value.jump());
+        let jump = value.jump();
+        let goes_on = self.position.leads_to_child(&jump);
+        self.draft.take(value, goes_on)?;
+        self.position.move_on(jump);
         self.lines += 1;
-        self.draft.take(value, self.position.awaits_child())?;
         Ok(())
     }
 
-    /// Takes the value of a line that is in range as far as it tells alone.
+    /// Takes the value of a line that is in range as far as it tells alone. After a refusal nothing has changed.
     fn take_value(&mut self, value: LineValue) -> Result<(), AllocError>
         requires few { self.old.lines < 4294967295 }
         requires kept { IsKept self.old.position self.old.lines self.old.limit self.old.draft }
         requires value { MayTake (state_of self.old) (value_of value) }
-        ensures { OnOk result (IsKept self.new.position self.new.lines self.new.limit self.new.draft × Advances (state_of self.old) (value_of value) (state_of self.new)) }
+        ensures ok { OnOk result (IsKept self.new.position self.new.lines self.new.limit self.new.draft × Advances (state_of self.old) (value_of value) (state_of self.new)) }
+        ensures err { OnErr result (self.new ≡ self.old) }
     {
         if self.limit.is_none() && self.draft.allows(&value) {
             return self.build(value);
@@ -132,22 +136,20 @@ impl SpecReader {
     }
 
     /// Takes the next line. `Form` comes exactly where no text of the form begins with the lines
-    /// that were taken and this one. After `Memory` no line has been taken.
+    /// that were taken and this one. After a refusal nothing has changed.
     pub fn take_line(&mut self, line: &[u8]) -> Result<(), LineFault>
         requires { self.old.lines < 4294967295 }
         ensures taken { OnOk result ((lines : List (List ℕ)) → HasRead lines self.old → HasRead (lines ++ line.now ∷ []) self.new) }
         ensures counted { OnOk result (self.new.lines ≡ self.old.lines + 1) }
         ensures form { IfErr result (λ fault. fault ≡ Form → step self.old.place line.now ≡ None) }
-        ensures stays { IfErr result (λ fault. fault ≡ Form → self.new ≡ self.old) }
+        ensures stays { OnErr result (self.new ≡ self.old) }
     {
         match read_line(self.alloc, &self.reading.position, line)? {
             LineRead::Beyond(jump) => self.reading.pass(jump),
             LineRead::InRange(value) => {
-                let mut reading = mem::replace(&mut self.reading, Reading::start(self.alloc));
-                let Ok(()) = reading.take_value(value) else {
+                let Ok(()) = self.reading.take_value(value) else {
                     return Err(LineFault::Memory);
                 };
-                self.reading = reading;
             }
         }
         Ok(())
@@ -171,12 +173,16 @@ impl SpecReader {
             return Err(TextFault::Limit { line });
         }
         let Draft {
+            alloc,
             basis,
             root_trace,
             entries,
             terms,
             ..
         } = draft;
+        let Ok(entries) = all_made(alloc, entries) else {
+            return Err(TextFault::Memory);
+        };
         Ok(SpecText {
             basis,
             root_trace,

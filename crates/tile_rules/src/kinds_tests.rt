@@ -136,17 +136,26 @@ fn around_the_highest(alloc: Global) -> Result<Tiling, Fail> {
     Ok(Tiling::of(alloc, 3, 2, obstructions, highest)?)
 }
 
+/// The void tiling.
+fn void(alloc: Global) -> Result<Tiling, Fail> {
+    let nothing = vec![in alloc; Gridded::of(alloc, &[], &[])?]?;
+    Ok(Tiling::of(alloc, 0, 0, nothing, Vec::new(alloc))?)
+}
+
 #[test]
 fn the_highest_point_is_placed_again(rt: HostRuntime) -> Result<(), Fail> {
     let alloc = rt.alloc();
     let whole = around_the_highest(alloc)?;
     let pointed = vec![in alloc; Pointed::of(Gridded::point_at(FAR), 0)]?;
     let kind = Kind::Place(Sequence::of(pointed), Direction::North);
+    let mut left = Vec::new(alloc);
     let mut traces = Vec::new(alloc);
     for child in raw_children(alloc, &whole, &kind)? {
-        let (_, trace) = normalise(alloc, child)?;
+        let (tiling, trace) = normalise(alloc, child)?;
+        left.push(tiling)?;
         traces.push(trace)?;
     }
+    assert_eq!(rt; left, vec![in alloc; void(alloc)?, whole]?);
     let nothing = vec![in alloc; Step::Min, Step::Lists, Step::Void]?;
     let again = vec![in alloc;
         Step::Min,
@@ -159,5 +168,42 @@ fn the_highest_point_is_placed_again(rt: HostRuntime) -> Result<(), Fail> {
         Step::Row(2),
     ]?;
     assert_eq!(rt; traces, vec![in alloc; nothing, again]?);
+    Ok(())
+}
+
+/// The 4x3 tiling of one point at a cell, which is spelled by two digits, as are the cells without points.
+fn one_point_in(alloc: Global, place: u8, cells: &[u8]) -> Result<Tiling, Fail> {
+    let at = Cell {
+        x: place / 10,
+        y: place % 10,
+    };
+    let mut obstructions = vec![in alloc; rising(alloc, at, at)?, Gridded::falling(at, at)]?;
+    for cell in cells {
+        obstructions.push(Gridded::point_at(Cell {
+            x: cell / 10,
+            y: cell % 10,
+        }))?;
+    }
+    if obstructions.len() > 20 {
+        return Err(Fail::from("few cells"));
+    }
+    let list = vec![in alloc; Sequence::of(vec![in alloc; Gridded::point_at(at)]?)]?;
+    Ok(Tiling::of(alloc, 4, 3, obstructions, list)?)
+}
+
+#[test]
+fn the_lowest_point_of_a_row_is_placed(rt: HostRuntime) -> Result<(), Fail> {
+    let alloc = rt.alloc();
+    let whole = Tiling::of(alloc, 2, 1, Vec::new(alloc), Vec::new(alloc))?;
+    let left = Pointed::of(Gridded::point_at(CORNER), 0);
+    let right = Pointed::of(Gridded::point_at(BESIDE), 0);
+    let kind = Kind::Place(Sequence::of(vec![in alloc; left, right]?), Direction::South);
+    let points = vec![in alloc; dot(alloc, CORNER)?, dot(alloc, BESIDE)?]?;
+    let wanted = vec![in alloc;
+        Tiling::of(alloc, 2, 1, points, Vec::new(alloc))?,
+        one_point_in(alloc, 11, &[0, 1, 10, 12, 20, 21, 30, 31])?,
+        one_point_in(alloc, 21, &[0, 1, 10, 11, 20, 22, 30, 31])?,
+    ]?;
+    assert_eq!(rt; raw_children(alloc, &whole, &kind)?, wanted);
     Ok(())
 }

@@ -1,9 +1,9 @@
 -- Answers, from what was read and what was found.
 use Rattle.std.proofs.Common.{◌≡◌, ℕ, true, Result, Ok, Err, refl, sym, ◌∙◌, arith, inl, inr, length, subst, ⊎_elim}
-use Rattle.std.specs.Prelude.{◌≢◌, ◌⊎◌, ◌≤◌, IfOk, IsNone, Option, Some, None, List, [], ◌∷◌}
+use Rattle.std.specs.Prelude.{◌≢◌, ◌⊎◌, ◌≤◌, ◌+◌, drop, IfOk, IsNone, Option, Some, None, List, [], ◌∷◌}
 use Rattle.lists.specs.Members.IsIn.{here, later}
 use Rattle.outside.specs.Bytes.{GrewBy, GrewByPrefix}
-use Rattle.outside.specs.Reading.{IsWhole}
+use Rattle.outside.specs.Reading.{IsWhole, Took}
 use Rattle.css_domain.specs.Ledgers.{done, is_all_done}
 use Rattle.css_domain.specs.Reasons.{Reason, EndsFor}
 use Rattle.css_domain.specs.Reasons.Reason.{Found, Exhausted, Budget}
@@ -18,13 +18,14 @@ use Rattle.tilescope.specs.declared.words.WordFault.{WordFault}
 use Rattle.tilescope.specs.Words.{Text, ReadsSearch, ReadsText, ReadsBy, Reads, IsRefused}
 use Rattle.tilescope.specs.Verdicts.{most_bytes, IsVerdict}
 use Rattle.tilescope.specs.Verdicts.IsVerdict.{accepted, rejected}
-use Rattle.tilescope.specs.Answers.{IsMade, IsTold, IsAnswer, IsSearchAnswer, IsTextAnswer, IsUsageAnswer, IsUsagePrefix, AreRefused, AskForSearch, AskOfText, IsOneOf, IsStatus, IsSilent, IsUsage, IsFoundWritten, IsAcceptedText, IsNoneWritten, IsSearchPrefix, IsSearchOf, IsSolved, IsSearched, IsLedgerOf, HasSpecification, IsByPack, HasNoSpecification, HasEnded, IsBeyondPack, IsCheckedWritten, IsRejectedWritten, IsVerdictPrefix, IsUnread, IsTooLong}
+use Rattle.tilescope.specs.Answers.{IsMade, IsTold, IsAnswer, IsSearchAnswer, IsTextAnswer, IsUsageAnswer, IsUsagePrefix, AreRefused, AskForSearch, AskOfText, IsOneOf, IsStatus, IsSilent, IsUsage, IsFoundWritten, IsAcceptedText, IsNoneWritten, IsSearchPrefix, IsSearchOf, IsSolved, IsSearched, IsLedgerOf, HasSpecification, IsByPack, HasNoSpecification, HasEnded, IsBeyondPack, IsCheckedWritten, IsRejectedWritten, IsVerdictPrefix, IsUnread, IsTooLong, IsWithin, IsDecided, AreTextsShort}
 use Rattle.tilescope.specs.Searches.{TileBooks}
 use Rattle.tilescope.specs.Answers.IsMade.{whole as made_whole, long as made_long}
 use Rattle.tilescope.specs.Answers.IsAnswer.{usage, search, text}
 use Rattle.tilescope.specs.Answers.IsSearchAnswer.{found, none, long as long_search}
-use Rattle.tilescope.specs.Answers.IsTextAnswer.{unread, too_many, told, long as long_line}
-use Rattle.tilescope.specs.Answers.IsTooLong.{read as long_read, line as long_told, search as long_answer}
+use Rattle.tilescope.specs.Answers.IsTextAnswer.{unread, too_many, told}
+use Rattle.tilescope.specs.Answers.IsTooLong.{read as long_read, search as long_answer}
+use Rattle.tilescope.specs.Answers.IsDecided.{accepted as decided_for, rejected as decided_against, memory as undecided}
 
 pub if_ok-weaker : {A E : Type 0} (P Q : A → Type 0) → ((a : A) → P a → Q a) → (r : Result A E) → IfOk r P → IfOk r Q
 if_ok-weaker P Q w (Ok a) h = w a h
@@ -38,14 +39,6 @@ made_none request l why line ne h _ _ _ (made_long over) = long_search l why lin
 pub made_found : (request : Request) (l : TileBooks) (line : Text) → IsSearched request l Found line → (s : ℕ) (t : Option Text) (b : Option TileBooks) → IsMade 0 line (Some l) s t b → IsSearchAnswer request s t b
 made_found request l line h _ _ _ (made_whole short) = found l line h short
 made_found request l line h _ _ _ (made_long over) = long_search l Found line h over
-
-pub made_verdict : (request : Request) (Rose : Type 0) (before after : Option Text) (status : ℕ) (line : Text) → IsTold request before after status line → (s : ℕ) (t : Option Text) (b : Option TileBooks) → IsMade status line None s t b → IsTextAnswer request Rose before after s t
-made_verdict request Rose before after status line h _ _ _ (made_whole short) = told status line h short
-made_verdict request Rose before after status line h _ _ _ (made_long over) = long_line status line h over
-
-pub made_alone : (status : ℕ) (line : Text) (s : ℕ) (t : Option Text) (b : Option TileBooks) → IsMade status line None s t b → IsNone b
-made_alone status line _ _ _ (made_whole short) = refl
-made_alone status line _ _ _ (made_long over) = refl
 
 -- ---- words are read or refused, and not both
 not_both_search : (words : List Text) (request : Request) (why : WordFault) → ReadsSearch words request → IsRefused words why → why ≢ Memory → ⊥
@@ -150,6 +143,12 @@ memory_searched = later 0 (later 1 (later 5 here))
 pub memory_told : IsOneOf 6 (0 ∷ 3 ∷ 4 ∷ 5 ∷ 6 ∷ 7 ∷ [])
 memory_told = later 0 (later 3 (later 4 (later 5 here)))
 
+pub memory_completed : IsOneOf 6 (0 ∷ 1 ∷ 6 ∷ [])
+memory_completed = later 0 (later 1 here)
+
+pub memory_decided : (words : List Text) (bytes : Text) → IsDecided words bytes 6
+memory_decided words bytes = undecided
+
 pub fault_refused : IsOneOf 5 (2 ∷ 5 ∷ 6 ∷ [])
 fault_refused = later 2 here
 
@@ -192,7 +191,6 @@ module _ (words : List Text) (Rose : Type 0) (before after : Option Text) where
   answer_status _ _ _ (text a _ _ (unread rose)) = st4
   answer_status _ _ _ (text a _ _ (too_many took)) = st7
   answer_status _ _ _ (text a _ _ (told s line h short)) = verdict_status a.request h.bytes s line h.verdict
-  answer_status _ _ _ (text a _ _ (long_line s line h over)) = st7
 
   pub answer_refused : (s : ℕ) (t : Option Text) (ledger : Option TileBooks) → IsAnswer words Rose before after s t ledger → AreRefused words → IsOneOf s (2 ∷ 5 ∷ 6 ∷ [])
   answer_refused _ _ _ (usage r) h = here
@@ -212,7 +210,6 @@ module _ (words : List Text) (Rose : Type 0) (before after : Option Text) where
   answer_told _ _ _ (text a _ _ (unread rose)) h = later 0 (later 3 here)
   answer_told _ _ _ (text a _ _ (too_many took)) h = later 0 (later 3 (later 4 (later 5 (later 6 here))))
   answer_told _ _ _ (text a _ _ (told s line k short)) h = verdict_told a.request k.bytes s line k.verdict
-  answer_told _ _ _ (text a _ _ (long_line s line k over)) h = later 0 (later 3 (later 4 (later 5 (later 6 here))))
 
   pub answer_alone : (s : ℕ) (t : Option Text) (ledger : Option TileBooks) → IsAnswer words Rose before after s t ledger → (AskForSearch words → ⊥) → IsNone ledger
   answer_alone _ _ _ (usage r) h = refl
@@ -224,7 +221,7 @@ module _ (words : List Text) (Rose : Type 0) (before after : Option Text) where
   searched a l why line h = record { asks = a; books = l; kept = refl; searched = h }
 
   own : (a : AskForSearch words) (l : TileBooks) (why : Reason) (line : Text) → IsSearched a.request l why line → IsLedgerOf words (Some l)
-  own a l why line h = record { asks = a; books = l; kept = refl; root = h.explored.root; of_pack = h.explored.alone.of_rulebook }
+  own a l why line h = record { asks = a; books = l; kept = refl; root = h.explored.root; of_pack = h.explored.filled.of_rulebook }
 
   pub answer_solved : (s : ℕ) (t : Option Text) (ledger : Option TileBooks) → IsAnswer words Rose before after s t ledger → AskForSearch words → IsSolved words ledger
   answer_solved _ _ _ (usage r) h = absurd (searched_or_refused words h r)
@@ -258,7 +255,6 @@ module _ (words : List Text) (Rose : Type 0) (before after : Option Text) where
   answer_has_memory _ _ _ (text a _ _ (unread rose)) e = omega (arith, e)
   answer_has_memory _ _ _ (text a _ _ (too_many took)) e = omega (arith, e)
   answer_has_memory _ _ _ (text a _ _ (told s line k short)) e = not_by_verdict a.request k.bytes s 6 line k.verdict e (λ i. omega (arith, i)) (λ i. omega (arith, i))
-  answer_has_memory _ _ _ (text a _ _ (long_line s line k over)) e = omega (arith, e)
 
   -- nor as a fault of the sink
   pub answer_no_fault : (s : ℕ) (t : Option Text) (ledger : Option TileBooks) → IsAnswer words Rose before after s t ledger → s ≡ 5 → ⊥
@@ -269,7 +265,6 @@ module _ (words : List Text) (Rose : Type 0) (before after : Option Text) where
   answer_no_fault _ _ _ (text a _ _ (unread rose)) e = omega (arith, e)
   answer_no_fault _ _ _ (text a _ _ (too_many took)) e = omega (arith, e)
   answer_no_fault _ _ _ (text a _ _ (told s line k short)) e = not_by_verdict a.request k.bytes s 5 line k.verdict e (λ i. omega (arith, i)) (λ i. omega (arith, i))
-  answer_no_fault _ _ _ (text a _ _ (long_line s line k over)) e = omega (arith, e)
 
   pub answer_none : (s : ℕ) (t : Option Text) (ledger : Option TileBooks) → IsAnswer words Rose before after s t ledger → s ≡ 1 → HasNoSpecification words ledger
   unfolding own
@@ -280,7 +275,6 @@ module _ (words : List Text) (Rose : Type 0) (before after : Option Text) where
   answer_none _ _ _ (text a _ _ (unread rose)) e = absurd (omega (arith, e))
   answer_none _ _ _ (text a _ _ (too_many took)) e = absurd (omega (arith, e))
   answer_none _ _ _ (text a _ _ (told s line k short)) e = absurd (not_by_verdict a.request k.bytes s 1 line k.verdict e (λ i. omega (arith, i)) (λ i. omega (arith, i)))
-  answer_none _ _ _ (text a _ _ (long_line s line k over)) e = absurd (omega (arith, e))
 
   pub answer_beyond : (s : ℕ) (t : Option Text) (ledger : Option TileBooks) → IsAnswer words Rose before after s t ledger → s ≡ 1 → IsBeyondPack words ledger
   unfolding own
@@ -291,18 +285,16 @@ module _ (words : List Text) (Rose : Type 0) (before after : Option Text) where
   answer_beyond _ _ _ (text a _ _ (unread rose)) e = absurd (omega (arith, e))
   answer_beyond _ _ _ (text a _ _ (too_many took)) e = absurd (omega (arith, e))
   answer_beyond _ _ _ (text a _ _ (told s line k short)) e = absurd (not_by_verdict a.request k.bytes s 1 line k.verdict e (λ i. omega (arith, i)) (λ i. omega (arith, i)))
-  answer_beyond _ _ _ (text a _ _ (long_line s line k over)) e = absurd (omega (arith, e))
 
   pub answer_ended : (s : ℕ) (t : Option Text) (ledger : Option TileBooks) → IsAnswer words Rose before after s t ledger → s ≡ 1 → HasEnded words ledger
   unfolding own
   answer_ended _ _ _ (usage r) e = absurd (omega (arith, e))
   answer_ended _ _ _ (search a _ _ _ (found l line k short)) e = absurd (omega (arith, e))
-  answer_ended _ _ _ (search a _ _ _ (none l why line ne k short)) e = record { own = own a l why line k; why = ended_by l why ne k.explored.ends; normal = k.explored.normal; complete = k.explored.alone.complete }
+  answer_ended _ _ _ (search a _ _ _ (none l why line ne k short)) e = record { own = own a l why line k; why = ended_by l why ne k.explored.ends; normal = k.explored.normal; complete = k.explored.filled.complete }
   answer_ended _ _ _ (search a _ _ _ (long_search l why line k over)) e = absurd (omega (arith, e))
   answer_ended _ _ _ (text a _ _ (unread rose)) e = absurd (omega (arith, e))
   answer_ended _ _ _ (text a _ _ (too_many took)) e = absurd (omega (arith, e))
   answer_ended _ _ _ (text a _ _ (told s line k short)) e = absurd (not_by_verdict a.request k.bytes s 1 line k.verdict e (λ i. omega (arith, i)) (λ i. omega (arith, i)))
-  answer_ended _ _ _ (text a _ _ (long_line s line k over)) e = absurd (omega (arith, e))
 
   pub answer_unread : (s : ℕ) (t : Option Text) (ledger : Option TileBooks) → IsAnswer words Rose before after s t ledger → s ≡ 4 → IsUnread words Rose
   answer_unread _ _ _ (usage r) e = absurd (omega (arith, e))
@@ -312,7 +304,6 @@ module _ (words : List Text) (Rose : Type 0) (before after : Option Text) where
   answer_unread _ _ _ (text a _ _ (unread rose)) e = record { asks = a; rose = rose }
   answer_unread _ _ _ (text a _ _ (too_many took)) e = absurd (omega (arith, e))
   answer_unread _ _ _ (text a _ _ (told s line k short)) e = absurd (not_by_verdict a.request k.bytes s 4 line k.verdict e (λ i. omega (arith, i)) (λ i. omega (arith, i)))
-  answer_unread _ _ _ (text a _ _ (long_line s line k over)) e = absurd (omega (arith, e))
 
   pub answer_long : (s : ℕ) (t : Option Text) (ledger : Option TileBooks) → IsAnswer words Rose before after s t ledger → s ≡ 7 → IsTooLong words before after ledger
   answer_long _ _ _ (usage r) e = absurd (omega (arith, e))
@@ -322,7 +313,35 @@ module _ (words : List Text) (Rose : Type 0) (before after : Option Text) where
   answer_long _ _ _ (text a _ _ (unread rose)) e = absurd (omega (arith, e))
   answer_long _ _ _ (text a _ _ (too_many took)) e = long_read a took
   answer_long _ _ _ (text a _ _ (told s line k short)) e = absurd (not_by_verdict a.request k.bytes s 7 line k.verdict e (λ i. omega (arith, i)) (λ i. omega (arith, i)))
-  answer_long _ _ _ (text a _ _ (long_line s line k over)) e = long_told a s line k over
+
+  -- ---- where nothing fails
+  -- a text that is told whole isn't too long
+  not_too_many : (within : IsWithin before) → Took before after (most_bytes + 1) → ⊥
+  not_too_many within took =
+      let all : (most_bytes + 1 ≤ length within.bytes) × (after ≡ Some (drop (most_bytes + 1) within.bytes)) = subst (λ (b : Option Text). Took b after (most_bytes + 1)) within.told took in
+      let few = within.few in
+      omega (arith, all.0, few)
+
+  all_of_it : (bytes : Text) (within : IsWithin before) → IsWhole before after bytes → bytes ≡ within.bytes
+  all_of_it bytes within whole = (subst (λ (b : Option Text). IsWhole b after bytes) within.told whole).0
+
+  by_verdict : (a : AskOfText words) (bytes : Text) (s : ℕ) (line : Text) → IsVerdict a.request bytes s line → IsDecided words bytes s
+  by_verdict a bytes _ _ (accepted entries terms is counts) = decided_for a (is.file, is.accepted)
+  by_verdict a bytes _ _ (rejected why ne r other) = decided_against a other
+
+  pub answer_decided : (s : ℕ) (t : Option Text) (ledger : Option TileBooks) → IsAnswer words Rose before after s t ledger → AskOfText words → (within : IsWithin before) → (Rose → ⊥) → IsDecided words within.bytes s
+  answer_decided _ _ _ (usage r) h within steady = absurd (told_or_refused words h r)
+  answer_decided _ _ _ (search a _ _ _ _) h within steady = absurd (searched_or_told words a h)
+  answer_decided _ _ _ (text a _ _ (unread rose)) h within steady = absurd (steady rose)
+  answer_decided _ _ _ (text a _ _ (too_many took)) h within steady = absurd (not_too_many within took)
+  answer_decided _ _ _ (text a _ _ (told s line k short)) h within steady = subst (λ (bytes : Text). IsDecided words bytes s) (all_of_it k.bytes within k.whole) (by_verdict a k.bytes s line k.verdict)
+
+  pub answer_completed : (s : ℕ) (t : Option Text) (ledger : Option TileBooks) → IsAnswer words Rose before after s t ledger → AskForSearch words → AreTextsShort words ledger → IsOneOf s (0 ∷ 1 ∷ 6 ∷ [])
+  answer_completed _ _ _ (usage r) h short = absurd (searched_or_refused words h r)
+  answer_completed _ _ _ (search a _ _ _ (found l line k _)) h short = here
+  answer_completed _ _ _ (search a _ _ _ (none l why line ne k _)) h short = later 0 here
+  answer_completed _ _ _ (search a _ _ _ (long_search l why line k over)) h short = let fits = short why line (searched a l why line k) in absurd (omega (arith, fits, over))
+  answer_completed _ _ _ (text a _ _ _) h short = absurd (searched_or_told words h a)
 
   -- ---- where there is a text
   module _ (line : Text) where
@@ -338,7 +357,6 @@ module _ (words : List Text) (Rose : Type 0) (before after : Option Text) where
         not_silent s (λ i. not_by_verdict a.request k.bytes s 4 _ k.verdict i (λ j. omega (arith, j)) (λ j. omega (arith, j)))
         (λ i. not_by_verdict a.request k.bytes s 6 _ k.verdict i (λ j. omega (arith, j)) (λ j. omega (arith, j)))
         (λ i. not_by_verdict a.request k.bytes s 7 _ k.verdict i (λ j. omega (arith, j)) (λ j. omega (arith, j))) h
-    answer_speaks _ _ _ (text a _ _ (long_line s _ k over)) e h = absurd cc
 
     module _ (held now : Option (List ℕ)) where
       -- what was written is the answer's own text
@@ -356,7 +374,6 @@ module _ (words : List Text) (Rose : Type 0) (before after : Option Text) where
       answer_usage _ _ _ (text a _ _ (unread rose)) i e g = absurd (omega (arith, e))
       answer_usage _ _ _ (text a _ _ (too_many took)) i e g = absurd (omega (arith, e))
       answer_usage _ _ _ (text a _ _ (told s own_line k short)) i e g = absurd (not_by_verdict a.request k.bytes s 2 own_line k.verdict e (λ j. omega (arith, j)) (λ j. omega (arith, j)))
-      answer_usage _ _ _ (text a _ _ (long_line s own_line k over)) i e g = absurd (omega (arith, e))
 
       pub answer_found : (s : ℕ) (t : Option Text) (ledger : Option TileBooks) → IsAnswer words Rose before after s t ledger → t ≡ Some line → AskForSearch words → s ≡ 0 → GrewBy held now line → IsFoundWritten words ledger held now
       answer_found _ _ _ (usage r) i h e g = absurd (omega (arith, e))
@@ -373,7 +390,6 @@ module _ (words : List Text) (Rose : Type 0) (before after : Option Text) where
       answer_none_written _ _ _ (text a _ _ (unread rose)) i e g = absurd (omega (arith, e))
       answer_none_written _ _ _ (text a _ _ (too_many took)) i e g = absurd (omega (arith, e))
       answer_none_written _ _ _ (text a _ _ (told s own_line k short)) i e g = absurd (not_by_verdict a.request k.bytes s 1 own_line k.verdict e (λ j. omega (arith, j)) (λ j. omega (arith, j)))
-      answer_none_written _ _ _ (text a _ _ (long_line s own_line k over)) i e g = absurd (omega (arith, e))
 
       -- the line of an accepted text
       by_accepted : (a : AskOfText words) (bytes : Text) (s : ℕ) (own_line : Text) → IsWhole before after bytes → length bytes ≤ most_bytes → IsVerdict a.request bytes s own_line → s ≡ 0 → length own_line ≤ most_bytes → GrewBy held now own_line → IsCheckedWritten words before after held now
@@ -390,7 +406,6 @@ module _ (words : List Text) (Rose : Type 0) (before after : Option Text) where
       answer_checked _ _ _ (text a _ _ (unread rose)) i h e g = absurd (omega (arith, e))
       answer_checked _ _ _ (text a _ _ (too_many took)) i h e g = absurd (omega (arith, e))
       answer_checked _ _ _ (text a _ _ (told s own_line k short)) i h e g = by_accepted a k.bytes s own_line k.whole k.few k.verdict e short (own_text own_line i g)
-      answer_checked _ _ _ (text a _ _ (long_line s own_line k over)) i h e g = absurd (omega (arith, e))
 
       pub answer_rejected : (s : ℕ) (t : Option Text) (ledger : Option TileBooks) → IsAnswer words Rose before after s t ledger → t ≡ Some line → s ≡ 3 → GrewBy held now line → IsRejectedWritten words before after held now
       answer_rejected _ _ _ (usage r) i e g = absurd (omega (arith, e))
@@ -400,7 +415,6 @@ module _ (words : List Text) (Rose : Type 0) (before after : Option Text) where
       answer_rejected _ _ _ (text a _ _ (unread rose)) i e g = absurd (omega (arith, e))
       answer_rejected _ _ _ (text a _ _ (too_many took)) i e g = absurd (omega (arith, e))
       answer_rejected _ _ _ (text a _ _ (told s own_line k short)) i e g = by_rejected a k.bytes s own_line k.whole k.few k.verdict e short (own_text own_line i g)
-      answer_rejected _ _ _ (text a _ _ (long_line s own_line k over)) i e g = absurd (omega (arith, e))
 
       pub usage_prefix : (s : ℕ) (t : Option Text) (ledger : Option TileBooks) → IsAnswer words Rose before after s t ledger → t ≡ Some line → AreRefused words → GrewByPrefix held now line → IsUsagePrefix words held now
       usage_prefix _ _ _ (usage r) i h g = record { refused = r; written = own_front _ i g }
@@ -420,7 +434,6 @@ module _ (words : List Text) (Rose : Type 0) (before after : Option Text) where
       text_prefix _ _ _ (text a _ _ (unread rose)) i h g = absurd cc
       text_prefix _ _ _ (text a _ _ (too_many took)) i h g = absurd cc
       text_prefix _ _ _ (text a _ _ (told s own_line k short)) i h g = record { asks = a; status = s; text = own_line; told = k; short = short; written = own_front own_line i g }
-      text_prefix _ _ _ (text a _ _ (long_line s own_line k over)) i h g = absurd cc
 
   -- ---- where there is no text, the status is one with which nothing is written
   pub answer_silent : (s : ℕ) (t : Option Text) (ledger : Option TileBooks) → IsAnswer words Rose before after s t ledger → t ≡ None → (s ≡ 4) ⊎ (s ≡ 7)
@@ -431,7 +444,6 @@ module _ (words : List Text) (Rose : Type 0) (before after : Option Text) where
   answer_silent _ _ _ (text a _ _ (unread rose)) i = inl refl
   answer_silent _ _ _ (text a _ _ (too_many took)) i = inr refl
   answer_silent _ _ _ (text a _ _ (told s _ k short)) i = absurd cc
-  answer_silent _ _ _ (text a _ _ (long_line s _ k over)) i = inr refl
 
   -- so it is no other
   pub not_silently : (s n : ℕ) (t : Option Text) (ledger : Option TileBooks) → IsAnswer words Rose before after s t ledger → t ≡ None → s ≡ n → (n ≡ 4 → ⊥) → (n ≡ 7 → ⊥) → ⊥

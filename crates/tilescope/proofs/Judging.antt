@@ -1,9 +1,6 @@
 -- The verdict on a text, from what the checker says.
 use Rattle.std.proofs.Common.{ℕ, List, ◌≡◌, refl, subst}
-use Rattle.std.specs.Prelude.{◌≢◌, ◌+◌, Option, Result, Err, IsOk}
-use Rattle.outside.specs.declared.faults.ReadFault.{ReadFault}
-use Rattle.outside.specs.declared.faults.ReadFault.TheVariants as read
-use Rattle.outside.specs.Reading.{IsReadRefusal, Took}
+use Rattle.std.specs.Prelude.{◌≢◌, Result, Err, IsOk}
 use Rattle.spec_checker.specs.declared.verdict.CheckFault.{CheckFault}
 use Rattle.spec_checker.specs.declared.verdict.CheckFault.TheVariants as fault
 use Rattle.spec_checker.specs.Accepting.{Accepts}
@@ -33,10 +30,3 @@ rejected_by X request basis bytes why same r h status line is =
     rw (is.ends, is.says)
     (rejected why is.not_memory (subst (λ (words : List (List ℕ)). IsRefused words bytes why) same r)
     (subst (λ (words : List (List ℕ)). Accepts words bytes → ⊥) same (not_accepted X basis bytes why is.not_memory h)))
-
--- ---- why a source wasn't read
-pub rose_by : (Rose : Type 0) (limit : ℕ) (before after : Option Text) (why : ReadFault) → why ≡ read.Read → IsReadRefusal Rose limit before after why → Rose
-rose_by Rose limit before after why e h = (subst (λ (w : ReadFault). IsReadRefusal Rose limit before after w) e h).0
-
-pub took_by : (Rose : Type 0) (limit passed : ℕ) (before after : Option Text) (why : ReadFault) → why ≡ read.TooLong passed → IsReadRefusal Rose limit before after why → Took before after (limit + 1)
-took_by Rose limit passed before after why e h = (subst (λ (w : ReadFault). IsReadRefusal Rose limit before after w) e h).1

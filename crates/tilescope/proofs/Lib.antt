@@ -6,4 +6,6 @@ mod Expansions
 mod Letters
 mod Solving
 mod Judging
+mod Short
 mod Accepted
+mod Streaming

@@ -1,13 +1,17 @@
 -- What a command answers, before it is written, and what it has written then.
-use Rattle.std.specs.Prelude.{◌≡◌, ◌≢◌, ◌≤◌, ◌<◌, ◌+◌, ◌⊎◌, Some, None, ℕ, Option, List, [], ◌∷◌, true, length}
+use Rattle.std.specs.Prelude.{IfSome, ◌≡◌, ◌≢◌, ◌≤◌, ◌<◌, ◌+◌, ◌⊎◌, Some, None, ℕ, Option, List, [], ◌∷◌, true, length}
 use Rattle.lists.specs.Members.{IsIn}
 use Rattle.outside.specs.Bytes.{GrewBy, GrewByPrefix}
 use Rattle.outside.specs.Reading.{IsWhole, Took}
 use Rattle.tiling_core.specs.Tiles.{Tiles}
 use Rattle.steps.specs.Traces.{IsNormal}
 use Rattle.css_domain.specs.Entries.{Entry, ValidSpec}
+use Rattle.css_domain.specs.FiledSpecs.{IsFiledSpec}
+use Rattle.css_domain.specs.LedgerFacts.{IsLedger}
 use Rattle.css_domain.specs.Ledgers.{classes, done, is_all_done}
-use Rattle.css_domain.specs.Reasons.{Reason, RootStands, AreFilingsComplete}
+use Rattle.css_crew.specs.Crews.{IsFilled}
+use Rattle.css_crew.specs.Ways.{GoesWith}
+use Rattle.css_domain.specs.Reasons.{Reason, RootStands, AreFilingsComplete, Alone, EndsFor}
 use Rattle.css_domain.specs.Reasons.Reason.{Found}
 use Rattle.rule_kinds.specs.Rules.{TilingRule}
 use Rattle.tile_rules.specs.Complete.{rulebook_of}
@@ -42,6 +46,17 @@ pub record AskOfText (words : List Text) : Type 0 where
   pub request : Request
   pub read : ReadsText words request
 
+-- ---- a search that is solved
+-- the ledger explores the class of the basis by the pack, with one worker alone; it ended for this reason, and this is the specification of its picks, where its root stands
+pub record IsSolvedFor (request : Request) (l : TileBooks) (why : Reason) (spec : Option TileEntries) : Type 0 where
+  pub root : IsReducedRoot request.basis l.root
+  pub ledger : IsLedger tile_meaning l
+  pub filled : IsFilled tile_meaning l.root request.budget (rulebook_of request.packs) l
+  pub alone : request.workers ≡ 1 → Alone tile_meaning l.root request.budget (rulebook_of request.packs) l
+  pub ends : EndsFor tile_meaning l why
+  pub goes : GoesWith tile_meaning l spec
+  pub filed : IfSome spec (λ entries. IsFiledSpec tile_meaning l entries)
+
 -- ---- answers before they are written; where there is no text, nothing is written
 -- the answer that says why words are refused, unless memory ran out
 pub record IsUsageAnswer (fault : WordFault) (status : ℕ) (text : Option Text) (ledger : Option TileBooks) : Type 0 where
@@ -55,9 +70,10 @@ pub data IsMade (status : ℕ) (text : Text) (ledger : Option TileBooks) : ℕ �
   whole : length text ≤ most_bytes → IsMade status text ledger status (Some text) ledger
   long : most_bytes < length text → IsMade status text ledger 7 None ledger
 
--- the ledger is that of the search that is asked for, it ended for this reason, and the text is its answer; specifications by its rules are of the pack, and there is none where none was found
+-- the ledger is that of the search that is asked for, with one worker the one that it fills alone; it ended for this reason, and the text is its answer; specifications by its rules are of the pack, and there is none where none was found
 pub record IsSearched (request : Request) (ledger : TileBooks) (why : Reason) (text : Text) : Type 0 where
   pub explored : IsExplored request.basis request.budget request.packs ledger why
+  pub alone : request.workers ≡ 1 → Alone tile_meaning ledger.root request.budget (rulebook_of request.packs) ledger
   pub says : IsAnswerText request.basis request.terms ledger why text
   pub by_pack : AreRulesOfPack request.packs ledger
   pub without : why ≢ Found → IsWithout request.packs ledger
@@ -75,12 +91,11 @@ pub record IsTold (request : Request) (before after : Option Text) (status : ℕ
   pub few : length bytes ≤ most_bytes
   pub verdict : IsVerdict request bytes status text
 
--- the answer of a command that reads a text, given that the source's count of faults rose where it failed, and what the source had and has left
+-- the answer of a command that reads a text, given that the source's count of faults rose where it failed, and what the source had and has left; the line of a verdict is never too long
 pub data IsTextAnswer (request : Request) (Rose : Type 0) (before after : Option Text) : ℕ → Option Text → Type 0 where
   unread : Rose → IsTextAnswer request Rose before after 4 None
   too_many : Took before after (most_bytes + 1) → IsTextAnswer request Rose before after 7 None
   told : (status : ℕ) (text : Text) → IsTold request before after status text → length text ≤ most_bytes → IsTextAnswer request Rose before after status (Some text)
-  long : (status : ℕ) (text : Text) → IsTold request before after status text → most_bytes < length text → IsTextAnswer request Rose before after 7 None
 
 -- the status, the text and the ledger of an answer
 pub data IsAnswer (words : List Text) (Rose : Type 0) (before after : Option Text) : ℕ → Option Text → Option TileBooks → Type 0 where
@@ -232,8 +247,24 @@ pub record IsUnread (words : List Text) (Rose : Type 0) : Type 0 where
   pub asks : AskOfText words
   pub rose : Rose
 
--- what was read, or what is to be written, is too long
+-- what was read is too long, or what a search is to write; a line that is the verdict on a text never is
 pub data IsTooLong (words : List Text) (before after : Option (List ℕ)) (ledger : Option TileBooks) : Type 0 where
   read : AskOfText words → Took before after (most_bytes + 1) → IsTooLong words before after ledger
-  line : (asks : AskOfText words) (status : ℕ) (text : Text) → IsTold asks.request before after status text → most_bytes < length text → IsTooLong words before after ledger
   search : (why : Reason) (text : Text) → IsSearchOf words ledger why text → most_bytes < length text → IsTooLong words before after ledger
+
+-- ---- where nothing fails
+-- a source that had `before` left tells it, and that isn't too long
+pub record IsWithin (before : Option Text) : Type 0 where
+  pub bytes : Text
+  pub told : before ≡ Some bytes
+  pub few : length bytes ≤ most_bytes
+
+-- the words ask of a text, and the status says whether it is accepted for the basis, or that memory ran out
+pub data IsDecided (words : List Text) (bytes : Text) : ℕ → Type 0 where
+  accepted : (asks : AskOfText words) → Accepts asks.request.basis bytes → IsDecided words bytes 0
+  rejected : (asks : AskOfText words) → (Accepts asks.request.basis bytes → ⊥) → IsDecided words bytes 3
+  memory : IsDecided words bytes 6
+
+-- no text that the search of this ledger gives is too long
+abbrev pub AreTextsShort : List Text → Option TileBooks → Type 0
+AreTextsShort words ledger = (why : Reason) (text : Text) → IsSearchOf words ledger why text → length text ≤ most_bytes

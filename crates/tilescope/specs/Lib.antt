@@ -3,3 +3,4 @@ pub mod Usage
 pub mod Searches
 pub mod Verdicts
 pub mod Answers
+pub mod Streams

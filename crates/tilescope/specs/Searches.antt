@@ -9,8 +9,9 @@ use Rattle.css_domain.specs.Ledgers.{Books, Counts, classes, counts, is_all_done
 use Rattle.css_domain.specs.Entries.{Entry, ValidSpec, Picked}
 use Rattle.css_domain.specs.FiledSpecs.{IsFiledSpec}
 use Rattle.css_domain.specs.LedgerFacts.{IsLedger}
-use Rattle.css_domain.specs.Reasons.{Reason, RootStands, EndsFor, Alone}
+use Rattle.css_domain.specs.Reasons.{Reason, RootStands, EndsFor}
 use Rattle.css_domain.specs.Reasons.Reason.{Found, Exhausted, Budget}
+use Rattle.css_crew.specs.Crews.{IsFilled}
 use Rattle.basis_terms.specs.BasisTerms.{terms_of}
 use Rattle.tile_rules.specs.Avoiding.{CountsAvoiders}
 use Rattle.rule_kinds.specs.Choices.{Packs}
@@ -44,11 +45,11 @@ pub record IsReducedRoot (basis : List (List ℕ)) (root : Tiles) : Type 0 where
   pub normal : IsNormal root
   pub counts : CountsAvoiders basis root
 
--- the ledger of one worker that explores the class of the basis by a pack, and why it ended
+-- the ledger explores the class of the basis by a pack: what is done is filed completely; and why it ended
 pub record IsExplored (basis : List (List ℕ)) (budget : ℕ) (packs : Packs) (l : TileBooks) (why : Reason) : Type 0 where
   pub root : IsReducedRoot basis l.root
   pub ledger : IsLedger tile_meaning l
-  pub alone : Alone tile_meaning l.root budget (rulebook_of packs) l
+  pub filled : IsFilled tile_meaning l.root budget (rulebook_of packs) l
   pub normal : (c : Tiles) → IsIn c (classes tile_meaning l) → IsNormal c
   pub ends : EndsFor tile_meaning l why
 

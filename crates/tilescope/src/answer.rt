@@ -1,8 +1,11 @@
 ghost use Rattle.std.specs.Prelude.{◌≡◌, ◌≤◌, ◌<◌, IfOk, map, string_bytes};
+ghost use Rattle.css_crew.specs.Ways.{reason_as};
+ghost use Rattle.normal_form.specs.TraceLaws.{trace};
 ghost use Rattle.perm_core.specs.Basis.{IsBasis};
+ghost use Rattle.tiling_core.specs.Roots.{root_of};
 ghost use Rattle.tile_rules.specs.Complete.{rulebook_of};
 ghost use Rattle.outside.specs.Counts.{Rose};
-ghost use Rattle.tilescope.specs.Answers.{AskOfText, IsAnswer, IsSearchAnswer, IsUsageAnswer};
+ghost use Rattle.tilescope.specs.Answers.{AskOfText, IsAnswer, IsSearchAnswer, IsSolvedFor, IsUsageAnswer};
 
 use crate::by_pack::ByPack;
 use crate::made::Answer;
@@ -19,7 +22,41 @@ use pack_law::exhausted_is_beyond_the_pack;
 use sequences::Sequence;
 use spec_text::{specs_are_spelled, write_spec};
 use std::alloc::{AllocError, Global};
+use steps::Step;
 use tile_rules::Tiles;
+
+/// The answer of a search that is solved: the text of the specification, or the line that says that there is none.
+#[tactic(auto, using(crate::proofs::Bases::naming))]
+pub(crate) fn say(
+    alloc: Global,
+    request: &Request,
+    steps: &[Step],
+    solved: Solved<Tiles>,
+) -> Result<Answer, AllocError>
+    requires basis { IsBasis request.now.basis }
+    requires short { request.now.terms ≤ 200 }
+    requires letter { 0 < rulebook_of request.now.packs }
+    requires solved { IsSolvedFor request.now solved.ledger (reason_as solved.reason) solved.spec }
+    requires trace { steps.now ≡ trace (root_of request.now.basis) }
+    ensures { IfOk result (λ a. IsSearchAnswer request.now a.status a.text a.ledger) }
+{
+    filed_specs_stand::<Tiles>();
+    exhausted_is_beyond_the_pack();
+    specs_are_spelled();
+    let basis = request.basis.as_slice();
+    let Solved {
+        ledger,
+        spec,
+        reason,
+    } = solved;
+    let Some(spec) = spec else {
+        let text = none_line(alloc, reason, ledger.counts())?;
+        return Ok(Answer::of(1, text, Some(ledger)));
+    };
+    let terms = terms(alloc, &spec, request.terms)?;
+    let text = write_spec(alloc, basis, steps, &spec, terms.as_slice())?;
+    Ok(Answer::of(0, text, Some(ledger)))
+}
 
 /// The answer of a search by one worker.
 #[tactic(auto, using(crate::proofs::Bases::naming))]
@@ -31,28 +68,13 @@ fn search(alloc: Global, request: &Request) -> Result<Answer, AllocError>
     requires letter { 0 < rulebook_of request.now.packs }
     ensures { IfOk result (λ a. IsSearchAnswer request.now a.status a.text a.ledger) }
 {
-    filed_specs_stand::<Tiles>();
-    exhausted_is_beyond_the_pack();
-    specs_are_spelled();
-    let basis = request.basis.as_slice();
-    let Reduced { root, trace } = reduce_root(alloc, basis)?;
-    let expander = ByPack::of(request.packs);
-    let Solved {
-        ledger,
-        spec,
-        reason,
-    } = solve_alone(alloc, root, request.budget, &expander)?;
-    let Some(spec) = spec else {
-        let text = none_line(alloc, reason, ledger.counts())?;
-        return Ok(Answer::of(1, text, Some(ledger)));
-    };
-    let terms = terms(alloc, &spec, request.terms)?;
-    let text = write_spec(alloc, basis, trace.as_slice(), &spec, terms.as_slice())?;
-    Ok(Answer::of(0, text, Some(ledger)))
+    let Reduced { root, trace } = reduce_root(alloc, request.basis.as_slice())?;
+    let solved = solve_alone(alloc, root, request.budget, &ByPack::of(request.packs))?;
+    say(alloc, request, trace.as_slice(), solved)
 }
 
 /// The answer to words that are refused, which is none where memory ran out.
-fn refuse(alloc: Global, fault: WordFault) -> Result<Answer, AllocError>
+pub(crate) fn refuse(alloc: Global, fault: WordFault) -> Result<Answer, AllocError>
     ensures { IfOk result (λ a. IsUsageAnswer fault a.status a.text a.ledger) }
 {
     match fault {

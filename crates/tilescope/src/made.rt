@@ -1,4 +1,4 @@
-ghost use Rattle.std.specs.Prelude.{◌≡◌, None};
+ghost use Rattle.std.specs.Prelude.{◌≡◌, Some, None};
 ghost use Rattle.tilescope.specs.Answers.{IsMade};
 
 use css_ledger::Ledger;
@@ -25,6 +25,17 @@ impl Answer {
         Answer {
             status,
             text: None,
+            ledger: None,
+        }
+    }
+
+    /// An answer with a line, and no ledger.
+    pub(crate) fn of_line(status: u8, line: Vec<u8>) -> Answer
+        ensures { result ≡ record { status = status; text = Some line.items; ledger = None } }
+    {
+        Answer {
+            status,
+            text: Some(Sequence::of(line)),
             ledger: None,
         }
     }

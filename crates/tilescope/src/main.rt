@@ -4,16 +4,20 @@
 
 mod answer;
 mod by_pack;
+mod crew_answer;
 mod made;
 mod none_line;
 mod root;
 mod run;
+mod run_crew;
+mod stream;
 mod usage;
 mod verdict;
 mod words;
 
+use css_crew::NoGate;
 use outside::{StdSink, StdSource};
-use run::run_plain;
+use run_crew::run;
 use std::env;
 use std::io::{self, ErrorKind};
 use std::process::ExitCode;
@@ -38,12 +42,23 @@ fn main(rt: HostRuntime) -> io::Result<ExitCode> {
     };
     let mut source = StdSource::new(rt.stdin());
     let mut sink = StdSink::new(rt.stdout());
-    let ended = run_plain(rt.alloc(), words.as_slice(), &mut source, &mut sink);
+    let ended = run(
+        &rt,
+        rt.alloc(),
+        words.as_slice(),
+        &mut source,
+        &mut sink,
+        &NoGate,
+    );
     Ok(ExitCode::from(ended.status))
 }
 
 #[cfg(test)]
+mod crew_tests;
+#[cfg(test)]
 mod search_tests;
+#[cfg(test)]
+mod stream_tests;
 #[cfg(test)]
 mod tests;
 #[cfg(test)]

@@ -1,7 +1,7 @@
 ghost use Rattle.std.specs.Prelude.{◌≡◌, ◌≢◌, [], ◌∷◌, IsNone, map, string_bytes};
 ghost use Rattle.outside.specs.Bytes.{GrewBy};
 ghost use Rattle.outside.specs.Counts.{Rose};
-ghost use Rattle.tilescope.specs.Answers.{AreRefused, AskForSearch, AskOfText, IsOneOf, IsStatus, IsSilent, IsUsage, IsUsagePrefix, IsFoundWritten, IsAcceptedText, IsNoneWritten, HasSpecification, IsByPack, HasNoSpecification, HasEnded, IsBeyondPack, IsSolved, IsSearchPrefix, IsCheckedWritten, IsRejectedWritten, IsVerdictPrefix, IsUnread, IsTooLong};
+ghost use Rattle.tilescope.specs.Answers.{AreRefused, AskForSearch, AskOfText, IsOneOf, IsStatus, IsSilent, IsUsage, IsUsagePrefix, IsFoundWritten, IsAcceptedText, IsNoneWritten, HasSpecification, IsByPack, HasNoSpecification, HasEnded, IsBeyondPack, IsSolved, IsSearchPrefix, IsCheckedWritten, IsRejectedWritten, IsVerdictPrefix, IsUnread, IsTooLong, IsWithin, IsDecided, AreTextsShort};
 
 use crate::answer::answer_to;
 use crate::made::Answer;
@@ -14,7 +14,7 @@ use tile_rules::Tiles;
 #[derive(Drop)]
 pub struct Ended {
     /// 0 done, 1 none found, 2 the words are refused, 3 the text is refused, 4 a read failed, 5 a write failed, 6
-    /// out of memory, 7 what was read or is to be written has over 268,435,456 bytes.
+    /// out of memory, 7 what was read, or the text of a search, has over 268,435,456 bytes.
     pub status: u8,
     /// The ledger of a search that had solved.
     pub ledger: Option<Ledger<Tiles>>,
@@ -52,6 +52,9 @@ pub fn run_plain<S: Source, K: Sink>(
     ensures long { result.status ≡ 7 → IsTooLong (map string_bytes words.now) (S.left source.old) (S.left source.new) result.ledger }
     ensures untouched { IsSilent result.status → sink.new ≡ sink.old }
     ensures silent { IsSilent result.status → GrewBy (K.held sink.old) (K.held sink.new) [] }
+
+    ensures complete_text { AskOfText (map string_bytes words.now) → (within : IsWithin (S.left source.old)) → (Rose (S.faults source.old) (S.faults source.new) → ⊥) → (Rose (K.faults sink.old) (K.faults sink.new) → ⊥) → IsDecided (map string_bytes words.now) within.bytes result.status }
+    ensures complete_search { AskForSearch (map string_bytes words.now) → AreTextsShort (map string_bytes words.now) result.ledger → (Rose (K.faults sink.old) (K.faults sink.new) → ⊥) → IsOneOf result.status (0 ∷ 1 ∷ 6 ∷ []) }
 
     ensures solved { AskForSearch (map string_bytes words.now) → result.status ≢ 6 → IsSolved (map string_bytes words.now) result.ledger }
     ensures no_ledger { (AskForSearch (map string_bytes words.now) → ⊥) → IsNone result.ledger }

@@ -1,4 +1,4 @@
-ghost use Rattle.std.specs.Prelude.{◌≡◌, ◌++◌, OnOk, IfOk, decimal};
+ghost use Rattle.std.specs.Prelude.{◌≡◌, ◌≤◌, ◌+◌, ◌++◌, OnOk, IfOk, decimal, length};
 ghost use Rattle.tilescope.specs.Usage.{option_text, basis_fault_text, fault_text, usage_line};
 
 use crate::words::{OptName, WordFault};
@@ -21,7 +21,8 @@ fn option_name(name: OptName) -> &'static [u8]
 
 /// Appends a word and a place or a number.
 pub(crate) fn put_place(out: &mut Vec<u8>, word: &[u8], at: u64) -> Result<(), AllocError>
-    ensures { OnOk result (out.new.items ≡ out.old.items ++ (word.now ++ decimal at)) }
+    ensures text { OnOk result (out.new.items ≡ out.old.items ++ (word.now ++ decimal at)) }
+    ensures short { OnOk result (length out.new.items ≤ length out.old.items + (length word.now + 40)) }
 {
     let mut buffer = Buffer::new();
     out.extend_from_slice(word)?;

@@ -1,14 +1,15 @@
-ghost use Rattle.std.specs.Prelude.{◌≡◌, ◌≤◌, ◌++◌, IfOk, OnOk, IsNone, length};
+ghost use Rattle.std.specs.Prelude.{◌≡◌, ◌≤◌, ◌+◌, ◌++◌, IfOk, OnOk, IsNone, Some, None, length};
 ghost use Rattle.perm_core.specs.Basis.{IsBasis};
 ghost use Rattle.outside.specs.Counts.{Rose};
 ghost use Rattle.tilescope.specs.Answers.{IsTextAnswer};
-ghost use Rattle.tilescope.specs.Verdicts.{refusal_text, rejected_line, accepted_line, checked_line, IsRejection, IsVerdict};
+ghost use Rattle.tilescope.specs.Verdicts.{refusal_text, rejected_line, accepted_line, checked_line, IsRejection};
 
 use crate::made::{Answer, MOST_BYTES};
+use crate::stream::{StreamFault, check_source};
 use crate::usage::put_place;
 use crate::words::{Command, Request};
-use outside::{ReadFault, Source, read_all};
-use spec_checker::{CheckFault, Checked, checked};
+use outside::Source;
+use spec_checker::{CheckFault, Checked};
 use spec_text::put_terms;
 use std::alloc::{AllocError, Global};
 
@@ -21,7 +22,8 @@ struct Verdict {
 
 /// Appends why a text is refused.
 fn put_refusal(out: &mut Vec<u8>, fault: CheckFault) -> Result<(), AllocError>
-    ensures { OnOk result (out.new.items ≡ out.old.items ++ refusal_text fault) }
+    ensures text { OnOk result (out.new.items ≡ out.old.items ++ refusal_text fault) }
+    ensures short { OnOk result (length out.new.items ≤ length out.old.items + 100) }
 {
     match fault {
         CheckFault::Grammar { line } => put_place(out, b"grammar ", u64::from(line)),
@@ -40,7 +42,8 @@ fn put_refusal(out: &mut Vec<u8>, fault: CheckFault) -> Result<(), AllocError>
 
 /// The line that says why a text is refused.
 fn rejected_line(alloc: Global, fault: CheckFault) -> Result<Vec<u8>, AllocError>
-    ensures { IfOk result (λ line. line.items ≡ rejected_line fault) }
+    ensures text { IfOk result (λ line. line.items ≡ rejected_line fault) }
+    ensures short { IfOk result (λ line. length line.items ≤ 110) }
 {
     let mut out = Vec::from_slice(alloc, b"rejected ")?;
     put_refusal(&mut out, fault)?;
@@ -77,7 +80,8 @@ fn checked_line(alloc: Global, command: Command, checked: &Checked) -> Result<Ve
 
 /// What is said of a text that is refused, which is nothing where memory ran out.
 fn reject(alloc: Global, fault: CheckFault) -> Result<Verdict, AllocError>
-    ensures { IfOk result (λ v. IsRejection fault v.status v.line.items) }
+    ensures says { IfOk result (λ v. IsRejection fault v.status v.line.items) }
+    ensures short { IfOk result (λ v. length v.line.items ≤ 110) }
 {
     match fault {
         CheckFault::Memory => Err(AllocError),
@@ -88,22 +92,25 @@ fn reject(alloc: Global, fault: CheckFault) -> Result<Verdict, AllocError>
     }
 }
 
-/// What the checker finds in a text for the basis that is asked for.
-fn judge(alloc: Global, request: &Request, bytes: &[u8]) -> Result<Verdict, AllocError>
-    requires basis { IsBasis request.now.basis }
-    requires few { length bytes.now ≤ 268435456 }
-    ensures { IfOk result (λ v. IsVerdict request.now bytes.now v.status v.line.items) }
+/// What is said of a text that is accepted.
+fn accept(alloc: Global, request: &Request, found: &Checked) -> Result<Verdict, AllocError>
+    ensures { IfOk result (λ v. (v.status ≡ 0) × (v.line.items ≡ checked_line request.now.command found.now.entries found.now.terms.items)) }
 {
-    match checked(alloc, request.basis.as_slice(), bytes) {
-        Ok(found) => Ok(Verdict {
-            status: 0,
-            line: checked_line(alloc, request.command, &found)?,
-        }),
-        Err(fault) => reject(alloc, fault),
-    }
+    Ok(Verdict {
+        status: 0,
+        line: checked_line(alloc, request.command, found)?,
+    })
 }
 
-/// The answer of a command that reads a text: the verdict on all that the source has left.
+/// The answer that says a verdict.
+fn answered(verdict: Verdict) -> Answer
+    ensures { result ≡ record { status = verdict.status; text = Some verdict.line.items; ledger = None } }
+{
+    Answer::of_line(verdict.status, verdict.line)
+}
+
+/// The answer of a command that reads a text: the verdict on all that the source has left. Its line is never too long
+/// to be written: that of terms is a line of the text itself.
 pub(crate) fn ask<S: Source>(
     alloc: Global,
     request: &Request,
@@ -113,12 +120,11 @@ pub(crate) fn ask<S: Source>(
     ensures answer { IfOk result (λ a. IsTextAnswer request.now (Rose (S.faults source.old) (S.faults source.new)) (S.left source.old) (S.left source.new) a.status a.text) }
     ensures no_ledger { IfOk result (λ a. IsNone a.ledger) }
 {
-    let bytes = match read_all(alloc, source, MOST_BYTES) {
-        Ok(bytes) => bytes,
-        Err(ReadFault::Read) => return Ok(Answer::silent(4)),
-        Err(ReadFault::TooLong { .. }) => return Ok(Answer::silent(7)),
-        Err(ReadFault::Memory) => return Err(AllocError),
-    };
-    let Verdict { status, line } = judge(alloc, request, bytes.as_slice())?;
-    Ok(Answer::of(status, line, None))
+    match check_source(alloc, request.basis.as_slice(), source, MOST_BYTES) {
+        Ok(found) => Ok(answered(accept(alloc, request, &found)?)),
+        Err(StreamFault::Check(fault)) => Ok(answered(reject(alloc, fault)?)),
+        Err(StreamFault::Read) => Ok(Answer::silent(4)),
+        Err(StreamFault::TooLong { .. }) => Ok(Answer::silent(7)),
+        Err(StreamFault::Memory) => Err(AllocError),
+    }
 }

@@ -102,7 +102,12 @@ fn each_alone(alloc: Global, patterns: Vec<Gridded>) -> Result<Vec<Sequence<Grid
 }
 
 /// The tiling of these sides, obstructions and requirement lists.
-fn tiling(alloc: Global, sides: &str, obstructions: &str, lists: &str) -> Result<Tiling, Fail> {
+pub(crate) fn tiling(
+    alloc: Global,
+    sides: &str,
+    obstructions: &str,
+    lists: &str,
+) -> Result<Tiling, Fail> {
     let sides = cell(sides.trim());
     let obstructions = patterns(alloc, obstructions)?;
     let lists = each_alone(alloc, patterns(alloc, lists)?)?;
@@ -193,7 +198,7 @@ fn put_infer(out: &mut Vec<u8>, patterns: &[Gridded]) -> Result<(), AllocError> 
 }
 
 /// Adds a kind.
-fn put_kind(out: &mut Vec<u8>, alloc: Global, kind: &Kind) -> Result<(), AllocError> {
+pub(crate) fn put_kind(out: &mut Vec<u8>, alloc: Global, kind: &Kind) -> Result<(), AllocError> {
     match kind {
         Kind::Unit => put_word(out, b"unit"),
         Kind::Point => put_word(out, b"point"),

@@ -10,6 +10,8 @@ mod lines;
 mod once;
 mod pack;
 #[cfg(test)]
+mod strategies_tests;
+#[cfg(test)]
 mod tests;
 
 pub use expansion::expand;

@@ -1,5 +1,5 @@
 use Rattle.std.proofs.Common.{◌≡◌, ◌*◌, length}
-use Rattle.css_log.specs.WholeRecords.{IsWhole}
+use Rattle.css_domain.specs.WholeRecords.{IsWhole}
 use Rattle.css_log.proofs.tests.write_many.Given as goal
 
 abbrev pub invariant-loop : goal.invariant-loop

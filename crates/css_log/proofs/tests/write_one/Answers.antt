@@ -3,9 +3,9 @@ use Rattle.css_domain.specs.declared.shape.Shape.TheVariants.{Union}
 use Rattle.css_domain.specs.declared.record.Record.{Record}
 use Rattle.lists.specs.Members.{IsIn}
 use Rattle.lists.specs.Members.IsIn.{here, later}
-use Rattle.css_log.specs.WholeRecords.{IsNarrow, IsWhole}
+use Rattle.css_domain.specs.WholeRecords.{IsNarrow, IsWhole}
 use Rattle.css_log.specs.States.{WriterState}
-use Rattle.css_log.proofs.Whole.{whole_one, whole_append}
+use Rattle.css_domain.proofs.Whole.{whole_one, whole_append}
 use Rattle.css_log.proofs.tests.write_one.Goals as goal
 
 abbrev insertion : Record

@@ -1,4 +1,4 @@
-use Rattle.std.proofs.Common.{◌≡◌, false, get_or, length, sym, arith}
+use Rattle.std.proofs.Common.{◌≡◌, false, get_or, sym, arith}
 use Rattle.std.specs.Prelude.{map, ◌≢◌}
 use Rattle.std.proofs.lemmas.List.{length-map}
 use Rattle.css_prune.proofs.FirstFaults.{one_but_slot, none_but_slot}

@@ -1,5 +1,5 @@
 -- The class goes last, and its place is known.
-use Rattle.std.proofs.Common.{◌≡◌, ◌≤◌, ◌+◌, suc, length, sym, ap, subst, ◌∙◌, arith}
+use Rattle.std.proofs.Common.{◌≡◌, ◌+◌, suc, length, arith}
 use Rattle.css_prune.proofs.Placed.{no_longer, placed}
 use Rattle.css_prune.proofs.order.add_child.Goals as goal
 

@@ -1,5 +1,5 @@
 -- Child by child.
-use Rattle.std.proofs.Common.{◌≡◌, length, sym, ap, subst, ◌∙◌, arith}
+use Rattle.std.proofs.Common.{arith}
 use Rattle.css_prune.proofs.Children.{child_number}
 use Rattle.css_prune.proofs.Placed.{one_child_more}
 use Rattle.css_prune.proofs.order.add_children.Goals as goal

@@ -1,51 +1,31 @@
--- Record by record.
-use Rattle.std.proofs.Common.{◌≡◌, ◌<◌, length, suc, ◌+◌, refl, sym, ◌∙◌, subst, arith}
+-- The first round tries all records, a later one those that wait for a class of the round before.
+use Rattle.std.proofs.Common.{length, arith}
+use Rattle.std.proofs.lemmas.Option.{slice_get_within}
 use Rattle.css_prune.specs.Pruning.{kept}
-use Rattle.css_prune.specs.Marks.{IsGiven, IsSkipped}
-use Rattle.css_prune.proofs.Steps.{start, given, skipped}
+use Rattle.css_prune.proofs.InRound.{begins, ends}
+use Rattle.css_prune.proofs.Fresh.{later}
 use Rattle.css_prune.proofs.round.run_round.Goals as goal
-use Rattle.css_prune.proofs.round.run_round.Goals.{then-give, else-give}
-use Rattle.lists.proofs.Places.{IsIn-slice_get, some_at}
+use Rattle.css_prune.proofs.round.run_round.Goals.{then-done-eq0+in_ok-try_all, else-done-eq0+in_ok-settle_all}
 
-pub loop-place-init : goal.loop-place-init
-loop-place-init c =
-    record {
-      ranks = c.requires.ranks;
-      picks = c.requires.picks;
-      marks = start (kept c.args.keep.now) c.args.records.now c.args.done c.args.ranks.now c.args.picks.now c.requires.before;
-      none = λ e. refl;
-    }
+pub try_all-requires-clause-under : goal.try_all-requires-clause-under
+try_all-requires-clause-under c = rw c.new-next.ensures.items (begins (kept c.args.keep.now) c.args.records.now c.args.done (length c.args.keep.now) c.args.ranks.now c.args.picks.now c.requires.before)
 
-pub give-requires-clause-within : goal.give-requires-clause-within
-give-requires-clause-within c =
-    c.requires.within c.index-records-place.result (IsIn-slice_get c.args.records.now c.loop-place.place c.index-records-place.result (some_at c.args.records.now c.loop-place.place c.index-records-place.result c.loop-place-test.true c.index-records-place.is))
+pub settle_all-requires-clause-under : goal.settle_all-requires-clause-under
+settle_all-requires-clause-under c = rw c.new-next.ensures.items (begins (kept c.args.keep.now) c.args.records.now c.args.done (length c.args.keep.now) c.args.ranks.now c.args.picks.now c.requires.before)
 
-pub give-requires-clause-short : goal.give-requires-clause-short
-give-requires-clause-short c =
-    c.requires.short.short c.index-records-place.result (IsIn-slice_get c.args.records.now c.loop-place.place c.index-records-place.result (some_at c.args.records.now c.loop-place.place c.index-records-place.result c.loop-place-test.true c.index-records-place.is))
-
-pub loop-place-preserved : goal.loop-place-preserved
-loop-place-preserved c =
-    let r = c.index-records-place.result in
-    let at = some_at c.args.records.now c.loop-place.place r c.loop-place-test.true c.index-records-place.is in
-    let within = c.requires.within r (IsIn-slice_get c.args.records.now c.loop-place.place r at) in
-    let next : c.args.done + 1 ≡ suc c.args.done = omega arith in
-    let in_ranks : r.parent < length c.loop-place.ranks = omega (arith, within.own, c.loop-place.invariant.ranks) in
-    let in_picks : r.parent < length c.loop-place.picks = omega (arith, within.own, c.loop-place.invariant.picks) in
-    elim c.if-give.branch [
-      | then-give w ↦
-          record {
-            ranks = omega (arith, c.give.auto.ranks, c.loop-place.invariant.ranks);
-            picks = omega (arith, c.give.auto.picks, c.loop-place.invariant.picks);
-            marks = given (kept c.args.keep.now) c.args.records.now c.args.done c.loop-place.place c.loop-place.ranks c.loop-place.picks c.loop-place.invariant.marks r at in_ranks in_picks c.give.new.ranks c.give.new.picks (subst (λ m. IsGiven (kept c.args.keep.now) m c.loop-place.place r c.loop-place.ranks c.loop-place.picks c.give.new.ranks c.give.new.picks) next (c.give.ensures.given w.if-give.true));
-            none = λ e. absurd (let m = w.more-is in cc);
-          }
-      | else-give w ↦
-          let s = c.give.ensures.skipped w.if-give.false in
-          record {
-            ranks = omega (arith, c.give.auto.ranks, c.loop-place.invariant.ranks);
-            picks = omega (arith, c.give.auto.picks, c.loop-place.invariant.picks);
-            marks = skipped (kept c.args.keep.now) c.args.records.now c.args.done c.loop-place.place c.loop-place.ranks c.loop-place.picks c.loop-place.invariant.marks r at c.give.new.ranks c.give.new.picks (subst (λ m. IsSkipped (kept c.args.keep.now) m r c.loop-place.ranks c.loop-place.picks c.give.new.ranks c.give.new.picks) next s);
-            none = λ e. s.ranks ∙ c.loop-place.invariant.none (sym w.more-is ∙ e);
-          }
+pub returns-clause-after : goal.returns-clause-after
+returns-clause-after c =
+    let K = kept c.args.keep.now in
+    let records = c.args.records.now in
+    let n = c.args.done in
+    let classes = length c.args.keep.now in
+    elim c.if-done-eq0.branch [
+      | then-done-eq0+in_ok-try_all w ↦
+          let run = w.in_ok-try_all.ensures in
+          rw (w.ranks-is, w.picks-is) (ends K records n classes w.try_all.new.ranks w.try_all.new.picks w.try_all.new.next.items run.under (λ d p r at none gift. run.tried p (slice_get_within records p r at)))
+      | else-done-eq0+in_ok-settle_all w ↦
+          let run = w.in_ok-settle_all.ensures in
+          rw (w.ranks-is, w.picks-is)
+          (ends K records n classes w.settle_all.new.ranks w.settle_all.new.picks w.settle_all.new.next.items run.under
+          (λ d p r at none gift. run.tried p (later K records n d p r at none gift c.args.waiting.now.slots.items c.args.fresh.now c.args.ranks.now w.if-done-eq0.false c.requires.waiting.all (c.requires.fresh (omega (arith, w.if-done-eq0.false))) c.requires.before.ranked)))
     ]

@@ -3,8 +3,8 @@ use Rattle.css_domain.specs.declared.shape.Shape.{Shape}
 use Rattle.css_domain.specs.Records.{shape_code, record_words}
 use Rattle.css_domain.specs.Ledgers.{classes, record_of}
 use Rattle.css_log.specs.States.{WriterState}
-use Rattle.css_log.specs.WholeRecords.{IsWhole, IsNarrowShape}
-use Rattle.css_log.proofs.Whole.{whole_append, whole_one}
+use Rattle.css_domain.specs.WholeRecords.{IsWhole, IsNarrowShape}
+use Rattle.css_domain.proofs.Whole.{whole_append, whole_one}
 use Rattle.lists.proofs.Places.{IsIn-slice_get}
 use Rattle.css_store.specs.RecordWords.{child_words}
 use Rattle.css_store.proofs.InRow.{record_words_are, narrow}

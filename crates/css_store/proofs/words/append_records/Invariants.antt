@@ -1,7 +1,7 @@
 use Rattle.std.proofs.Common.{◌≡◌, take}
 use Rattle.css_domain.specs.Records.{words_of}
 use Rattle.css_domain.specs.Ledgers.{records}
-use Rattle.css_log.specs.WholeRecords.{IsWhole}
+use Rattle.css_domain.specs.WholeRecords.{IsWhole}
 use Rattle.css_store.proofs.words.append_records.Given as goal
 
 abbrev pub invariant-loop-position : goal.invariant-loop-position

@@ -1,4 +1,4 @@
-use Rattle.std.proofs.Common.{◌≡◌, ◌∙◌, sym}
+use Rattle.std.proofs.Common.{◌∙◌, sym}
 use Rattle.gridded.proofs.Keys.{first-cmp, second-cmp, third-cmp, last-cmp, by_words, stopped, went_on}
 use Rattle.gridded.proofs.key.compare.Goals as goal
 

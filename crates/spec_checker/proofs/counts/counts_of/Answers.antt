@@ -3,7 +3,11 @@ use Rattle.std.proofs.lemmas.Result.{IfOk-weaker}
 use Rattle.css_terms.specs.Rows.{AreTermsOf}
 use Rattle.css_terms.specs.declared.rows.Row.{Row}
 use Rattle.spec_checker.proofs.Counted.{from_rows}
+use Rattle.spec_checker.proofs.Joined.{as_many_each}
 use Rattle.spec_checker.proofs.counts.counts_of.Goals as goal
+
+pub rows_of-requires-after_bounds : goal.rows_of-requires-after_bounds
+rows_of-requires-after_bounds c = λ κs. as_many_each c.args.entries.now c.requires.joined
 
 pub returns : goal.returns
 returns c =

@@ -1,5 +1,5 @@
 use Rattle.std.proofs.Common.{arith, sym, ap, ◌∙◌, Some}
-use Rattle.tilescope.proofs.Answering.{answer_status, answer_refused, answer_searched, answer_told, answer_alone, answer_solved, answer_valid, answer_by_pack, answer_has_memory, answer_no_fault, answer_none, answer_beyond, answer_ended, answer_unread, answer_long, answer_speaks, answer_usage, answer_found, accepted_text, answer_none_written, answer_checked, answer_rejected, usage_prefix, search_prefix, text_prefix, not_silently, memory_status, memory_refused, memory_searched, memory_told, fault_status, fault_refused, fault_searched, fault_told, fault_speaks}
+use Rattle.tilescope.proofs.Answering.{answer_status, answer_refused, answer_searched, answer_told, answer_alone, answer_solved, answer_valid, answer_by_pack, answer_has_memory, answer_no_fault, answer_none, answer_beyond, answer_ended, answer_unread, answer_long, answer_speaks, answer_usage, answer_found, accepted_text, answer_none_written, answer_checked, answer_rejected, usage_prefix, search_prefix, text_prefix, not_silently, memory_status, memory_refused, memory_searched, memory_told, fault_status, fault_refused, fault_searched, fault_told, fault_speaks, answer_decided, answer_completed, memory_decided, memory_completed}
 use Rattle.tilescope.proofs.run.run_plain.Goals as goal
 
 pub returns-in_default-clause-statuses : goal.returns-in_default-clause-statuses
@@ -187,3 +187,27 @@ returns-clause-usage_prefix g c = λ a _. usage_prefix _ _ _ _ c.as_slice.result
 
 pub returns-clause-text_prefix : goal.returns-clause-text_prefix
 returns-clause-text_prefix g c = λ a _. text_prefix _ _ _ _ c.as_slice.result.now _ _ _ _ _ c.in-Ok.ensures.answer (c.in-Some.is ∙ ap Some (sym c.as_slice.ensures)) a c.in-Err.ensures.prefix
+
+pub returns-in_default-clause-complete_text : goal.returns-in_default-clause-complete_text
+returns-in_default-clause-complete_text g c = λ _ within _ _. memory_decided _ within.bytes
+
+pub returns-in_default-clause-complete_search : goal.returns-in_default-clause-complete_search
+returns-in_default-clause-complete_search g c = λ _ _ _. memory_completed
+
+pub returns-in_default-text-clause-complete_text : goal.returns-in_default-text-clause-complete_text
+returns-in_default-text-clause-complete_text g c = λ a within steady _. answer_decided _ _ _ _ _ _ _ c.in-Ok.ensures.answer a within steady
+
+pub returns-in_default-text-clause-complete_search : goal.returns-in_default-text-clause-complete_search
+returns-in_default-text-clause-complete_search g c = λ a short _. answer_completed _ _ _ _ _ _ _ c.in-Ok.ensures.answer a short
+
+pub returns-in-Ok-write_all-clause-complete_text : goal.returns-in-Ok-write_all-clause-complete_text
+returns-in-Ok-write_all-clause-complete_text g c = λ a within steady _. answer_decided _ _ _ _ _ _ _ c.in-Ok.ensures.answer a within steady
+
+pub returns-in-Ok-write_all-clause-complete_search : goal.returns-in-Ok-write_all-clause-complete_search
+returns-in-Ok-write_all-clause-complete_search g c = λ a short _. answer_completed _ _ _ _ _ _ _ c.in-Ok.ensures.answer a short
+
+pub returns-clause-complete_text : goal.returns-clause-complete_text
+returns-clause-complete_text g c = λ _ _ _ steady. absurd (steady c.in-Err.ensures.cause)
+
+pub returns-clause-complete_search : goal.returns-clause-complete_search
+returns-clause-complete_search g c = λ _ _ steady. absurd (steady c.in-Err.ensures.cause)

@@ -1,27 +1,26 @@
-use Rattle.std.proofs.Common.{subst}
-use Rattle.tilescope.specs.Verdicts.{IsVerdict}
-use Rattle.tilescope.specs.Words.{Text}
-use Rattle.tilescope.specs.Answers.IsTextAnswer.{unread, too_many}
-use Rattle.tilescope.proofs.Judging.{rose_by, took_by}
-use Rattle.tilescope.proofs.Answering.{made_verdict, made_alone}
+use Rattle.std.proofs.Common.{arith}
+use Rattle.tilescope.specs.Answers.IsTextAnswer.{unread, too_many, told}
+use Rattle.tilescope.proofs.Streaming.{told_accepted, told_rejected, short_accepted, refused_by, rose_of, took_of}
 use Rattle.tilescope.proofs.verdict.ask.Goals as goal
 
+pub returns-in_ok-accept-in-Ok-clause-answer : goal.returns-in_ok-accept-in-Ok-clause-answer
+returns-in_ok-accept-in-Ok-clause-answer g c =
+    let v = c.in_ok-accept-in-Ok.field-0 in
+    rw c.answered.ensures
+    (told v.status v.line.items
+    (told_accepted c.args.request.now c.as_slice.result.now _ _ c.in-Ok.found c.as_slice.ensures c.in-Ok.ensures.answer v.status v.line.items c.in_ok-accept-in-Ok.ensures.0 c.in_ok-accept-in-Ok.ensures.1)
+    (short_accepted c.args.request.now c.as_slice.result.now _ _ c.in-Ok.found c.in-Ok.ensures.answer v.line.items c.in_ok-accept-in-Ok.ensures.1))
+
+pub returns-in_ok-reject-in-Err-Check-clause-answer : goal.returns-in_ok-reject-in-Err-Check-clause-answer
+returns-in_ok-reject-in-Err-Check-clause-answer g c =
+    let v = c.in_ok-reject-in-Err-Check.field-0 in
+    rw c.answered-in-Err-Check.ensures
+    (told v.status v.line.items
+    (told_rejected c.args.request.now c.as_slice.result.now _ _ c.in-Err-Check.fault c.as_slice.ensures (refused_by _ _ _ _ _ c.in-Err-Check.field-0 c.in-Err-Check.fault c.in-Err-Check.field-0-is c.in-Err-Check.ensures.answer) v.status v.line.items c.in_ok-reject-in-Err-Check.ensures.says)
+    (omega (arith, c.in_ok-reject-in-Err-Check.ensures.short)))
+
 pub returns-in-Err-Read-clause-answer : goal.returns-in-Err-Read-clause-answer
-returns-in-Err-Read-clause-answer g c = rw c.silent.ensures (unread (rose_by _ _ _ _ c.in-Err-Read.field-0 c.in-Err-Read.field-0-is c.in-Err-Read.ensures.refused))
+returns-in-Err-Read-clause-answer g c = rw c.silent.ensures (unread (rose_of _ _ _ _ _ c.in-Err-Read.field-0 c.in-Err-Read.field-0-is c.in-Err-Read.ensures.answer))
 
 pub returns-in-Err-TooLong-clause-answer : goal.returns-in-Err-TooLong-clause-answer
-returns-in-Err-TooLong-clause-answer g c = rw c.silent-in-Err-TooLong.ensures (too_many (took_by _ _ _ _ _ c.in-Err-TooLong.field-0 c.in-Err-TooLong.field-0-is c.in-Err-TooLong.ensures.refused))
-
-pub returns-clause-answer : goal.returns-clause-answer
-returns-clause-answer g c =
-    made_verdict c.args.request.now _ _ _ c.in_ok-status.field-0.status c.in_ok-status.field-0.line.items
-    (record {
-      bytes = c.in-Ok.bytes.items;
-      whole = c.in-Ok.ensures.whole;
-      few = c.in-Ok.ensures.short;
-      verdict = subst (λ (bytes : Text). IsVerdict c.args.request.now bytes c.in_ok-status.field-0.status c.in_ok-status.field-0.line.items) c.as_slice.ensures.value c.in_ok-status.ensures;
-    })
-    c.of.result.status c.of.result.text c.of.result.ledger c.of.ensures
-
-pub returns-clause-no_ledger : goal.returns-clause-no_ledger
-returns-clause-no_ledger g c = made_alone c.in_ok-status.field-0.status c.in_ok-status.field-0.line.items c.of.result.status c.of.result.text c.of.result.ledger c.of.ensures
+returns-in-Err-TooLong-clause-answer g c = rw c.silent-in-Err-TooLong.ensures (too_many (took_of _ _ _ _ _ _ c.in-Err-TooLong.field-0 c.in-Err-TooLong.field-0-is c.in-Err-TooLong.ensures.answer))

@@ -1,6 +1,6 @@
 use Rattle.std.proofs.Common.{◌≡◌, ◌≤◌, ◌-◌, ◌+◌, vec_len, vec_capacity}
 use mathlib.Core.List.{IsPrefix}
-use Rattle.css_log.specs.WholeRecords.{IsWhole}
+use Rattle.css_domain.specs.WholeRecords.{IsWhole}
 use Rattle.css_log.specs.States.{reading}
 use Rattle.css_log.specs.Told.{seated}
 use Rattle.css_log.proofs.reader.Copying.gather.Given as goal

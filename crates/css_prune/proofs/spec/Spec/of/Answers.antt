@@ -1,6 +1,6 @@
 -- The entries without a fault are a specification.
-use Rattle.std.proofs.Common.{◌≡◌, ◌<◌, List, length, sym, subst, ◌∙◌, arith}
-use Rattle.css_domain.specs.Entries.{Entry, IsSpec}
+use Rattle.std.proofs.Common.{◌<◌, List, length, sym, subst, ◌∙◌}
+use Rattle.css_domain.specs.Entries.{Entry}
 use Rattle.css_prune.specs.Faults.{EachBefore, IsRuleRight, AreRanksRight, IsFirstWrongRank}
 use Rattle.css_prune.proofs.FirstFaults.{is_spec, some_there}
 use Rattle.css_prune.proofs.spec.Spec.of.Goals as goal

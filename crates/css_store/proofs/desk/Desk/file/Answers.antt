@@ -2,7 +2,7 @@ use Rattle.std.proofs.Common.{rules, ◌≡◌, true, ℕ, length, take, sym, ap
 use Rattle.std.specs.Prelude.{slice_get}
 use Rattle.std.proofs.lemmas.List.{take_all}
 use Rattle.css_domain.specs.Ledgers.{Counts, classes, with_filing}
-use Rattle.css_log.specs.WholeRecords.{IsWhole}
+use Rattle.css_domain.specs.WholeRecords.{IsWhole}
 use Rattle.css_store.specs.Filings.{may_file, IsFiling}
 use Rattle.css_store.proofs.MayFile.{out_here, filing_here, own_after}
 use Rattle.css_store.proofs.desk.Desk.file.Goals as goal

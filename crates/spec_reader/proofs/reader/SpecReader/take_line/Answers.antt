@@ -1,6 +1,6 @@
 use Rattle.std.proofs.Common.{rules, sym, subst}
 use Rattle.spec_reader.specs.Positions.{place_of}
-use Rattle.spec_reader.specs.States.{MayTake, Advances, state_of}
+use Rattle.spec_reader.specs.States.{Advances, state_of}
 use Rattle.spec_reader.specs.Values.{value_of, IsRead}
 use Rattle.spec_reader.specs.Walks.{HasRead}
 use Rattle.spec_reader.proofs.Takings.{may_take, passes_beyond, read_further}
@@ -9,8 +9,7 @@ use Rattle.spec_reader.proofs.reader.SpecReader.take_line.Goals as goal
 pub take_value-requires-clause-value : goal.take_value-requires-clause-value
 take_value-requires-clause-value c =
     let r = c.self.inside.reading in
-    subst (λ x. MayTake (state_of x) (value_of c.in-InRange.value)) (sym c.replace-reading.ensures.value)
-    (may_take r c.args.line.now c.in-InRange.value (subst (IsRead (place_of r.position) c.args.line.now) c.in-InRange.is c.in_ok-jump.ensures))
+    may_take r c.args.line.now c.in-InRange.value (subst (IsRead (place_of r.position) c.args.line.now) c.in-InRange.is c.in_ok-jump.ensures)
 
 pub returns-in-Beyond-clause-taken : goal.returns-in-Beyond-clause-taken
 returns-in-Beyond-clause-taken c =
@@ -24,7 +23,6 @@ returns-in-Ok-clause-taken c =
     let r = c.self.inside.reading in
     let v = c.in-InRange.value in
     let read = subst (IsRead (place_of r.position) c.args.line.now) c.in-InRange.is c.in_ok-jump.ensures in
-    let taken : Advances (state_of c.replace-reading.result) (value_of v) (state_of c.take_value.new.self) = search rules in
+    let taken : Advances (state_of r) (value_of v) (state_of c.take_value.new.self) = search rules in
     λ lines h.
-    read_further (state_of r) (state_of c.take_value.new.self) c.args.line.now (value_of v) read.0
-    (subst (λ x. Advances (state_of x) (value_of v) (state_of c.take_value.new.self)) c.replace-reading.ensures.value taken) lines (subst (HasRead lines) (sym c.self.view_is) h)
+    read_further (state_of r) (state_of c.take_value.new.self) c.args.line.now (value_of v) read.0 taken lines (subst (HasRead lines) (sym c.self.view_is) h)

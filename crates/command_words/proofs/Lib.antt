@@ -1,0 +1,12 @@
+mod Forms
+mod Growing
+mod Names
+mod Walking
+mod Steps
+mod Walked
+mod Taken
+mod FoundApps
+mod Asking
+mod Numbers
+mod OneThing
+mod Soundness

@@ -1,0 +1,5 @@
+pub mod Commands
+pub mod Parts
+pub mod Apps
+pub mod Met
+pub mod Requests

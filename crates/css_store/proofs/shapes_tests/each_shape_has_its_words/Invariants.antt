@@ -1,0 +1,4 @@
+use Rattle.css_store.proofs.shapes_tests.each_shape_has_its_words.Given as goal
+
+abbrev pub ghosts-words_are : goal.ghosts-words_are
+ghosts-words_are g a = record { log = a.log; budget = 5; rulebook = 0 }

@@ -1,0 +1,82 @@
+ghost use Rattle.std.specs.Prelude.{◌≡◌, ◌≢◌, [], ◌∷◌, IsNone, map, string_bytes};
+ghost use Rattle.outside.specs.Bytes.{GrewBy};
+ghost use Rattle.outside.specs.Counts.{Rose};
+ghost use Rattle.tilescope.specs.Answers.{AreRefused, AskForSearch, AskOfText, IsOneOf, IsStatus, IsSilent, IsUsage, IsUsagePrefix, IsFoundWritten, IsAcceptedText, IsNoneWritten, HasSpecification, IsByPack, HasNoSpecification, HasEnded, IsBeyondPack, IsSolved, IsSearchPrefix, IsCheckedWritten, IsRejectedWritten, IsVerdictPrefix, IsUnread, IsTooLong, IsWithin, IsDecided, AreTextsShort};
+
+use crate::crew_answer::answer_by_crew;
+use crate::made::Answer;
+use crate::run::Ended;
+use css_crew::Gate;
+use outside::{Sink, Source, write_all};
+use std::alloc::Global;
+use std::sync::Wait;
+use std::thread::Threads;
+
+/// Does what the words after the program's name ask for (docs/FORMATS.md, "Command words"), a search with as many
+/// workers as they say, whose acts the gate is told. Where these are more than one, the call may wait, and what is
+/// written depends on the schedule; else it is what `run_plain` writes. All that it writes is made first and written
+/// last. `check` and `terms` read all that the source has left; no other command uses it.
+pub fn run<R: Threads + Wait + Sync, S: Source, K: Sink, G: Gate + Sync>(
+    rt: &R,
+    alloc: Global,
+    words: &[String],
+    source: &mut S,
+    sink: &mut K,
+    gate: &G,
+) -> Ended
+    ensures statuses { IsStatus result.status }
+    ensures refused { AreRefused (map string_bytes words.now) → IsOneOf result.status (2 ∷ 5 ∷ 6 ∷ []) }
+    ensures search { AskForSearch (map string_bytes words.now) → IsOneOf result.status (0 ∷ 1 ∷ 5 ∷ 6 ∷ 7 ∷ []) }
+    ensures text { AskOfText (map string_bytes words.now) → IsOneOf result.status (0 ∷ 3 ∷ 4 ∷ 5 ∷ 6 ∷ 7 ∷ []) }
+    ensures source { (AskOfText (map string_bytes words.now) → ⊥) → source.new ≡ source.old }
+
+    ensures found { AskForSearch (map string_bytes words.now) → result.status ≡ 0 → IsFoundWritten (map string_bytes words.now) result.ledger (K.held sink.old) (K.held sink.new) }
+    ensures valid { AskForSearch (map string_bytes words.now) → result.status ≡ 0 → HasSpecification (map string_bytes words.now) result.ledger }
+    ensures by_pack { AskForSearch (map string_bytes words.now) → result.status ≡ 0 → IsByPack (map string_bytes words.now) result.ledger }
+    ensures accepted_text { AskForSearch (map string_bytes words.now) → result.status ≡ 0 → IsAcceptedText (map string_bytes words.now) result.ledger (K.held sink.old) (K.held sink.new) }
+    ensures none { result.status ≡ 1 → IsNoneWritten (map string_bytes words.now) result.ledger (K.held sink.old) (K.held sink.new) }
+    ensures no_specification { result.status ≡ 1 → HasNoSpecification (map string_bytes words.now) result.ledger }
+    ensures ended { result.status ≡ 1 → HasEnded (map string_bytes words.now) result.ledger }
+    ensures beyond { result.status ≡ 1 → IsBeyondPack (map string_bytes words.now) result.ledger }
+    ensures usage { result.status ≡ 2 → IsUsage (map string_bytes words.now) (K.held sink.old) (K.held sink.new) }
+
+    ensures checked { AskOfText (map string_bytes words.now) → result.status ≡ 0 → IsCheckedWritten (map string_bytes words.now) (S.left source.old) (S.left source.new) (K.held sink.old) (K.held sink.new) }
+    ensures rejected { result.status ≡ 3 → IsRejectedWritten (map string_bytes words.now) (S.left source.old) (S.left source.new) (K.held sink.old) (K.held sink.new) }
+    ensures unread { result.status ≡ 4 → IsUnread (map string_bytes words.now) (Rose (S.faults source.old) (S.faults source.new)) }
+    ensures write_fault { result.status ≡ 5 → Rose (K.faults sink.old) (K.faults sink.new) }
+    ensures long { result.status ≡ 7 → IsTooLong (map string_bytes words.now) (S.left source.old) (S.left source.new) result.ledger }
+    ensures untouched { IsSilent result.status → sink.new ≡ sink.old }
+    ensures silent { IsSilent result.status → GrewBy (K.held sink.old) (K.held sink.new) [] }
+
+    ensures complete_text { AskOfText (map string_bytes words.now) → (within : IsWithin (S.left source.old)) → (Rose (S.faults source.old) (S.faults source.new) → ⊥) → (Rose (K.faults sink.old) (K.faults sink.new) → ⊥) → IsDecided (map string_bytes words.now) within.bytes result.status }
+    ensures complete_search { AskForSearch (map string_bytes words.now) → AreTextsShort (map string_bytes words.now) result.ledger → (Rose (K.faults sink.old) (K.faults sink.new) → ⊥) → IsOneOf result.status (0 ∷ 1 ∷ 6 ∷ []) }
+
+    ensures solved { AskForSearch (map string_bytes words.now) → result.status ≢ 6 → IsSolved (map string_bytes words.now) result.ledger }
+    ensures no_ledger { (AskForSearch (map string_bytes words.now) → ⊥) → IsNone result.ledger }
+    ensures nothing_kept { result.status ≡ 6 → IsNone result.ledger }
+
+    ensures search_prefix { AskForSearch (map string_bytes words.now) → result.status ≡ 5 → IsSearchPrefix (map string_bytes words.now) result.ledger (K.held sink.old) (K.held sink.new) }
+    ensures usage_prefix { AreRefused (map string_bytes words.now) → result.status ≡ 5 → IsUsagePrefix (map string_bytes words.now) (K.held sink.old) (K.held sink.new) }
+    ensures text_prefix { AskOfText (map string_bytes words.now) → result.status ≡ 5 → IsVerdictPrefix (map string_bytes words.now) (S.left source.old) (S.left source.new) (K.held sink.old) (K.held sink.new) }
+{
+    let Ok(
+        Answer {
+            status,
+            text,
+            ledger,
+        },
+    ) = answer_by_crew(rt, alloc, words, source, gate)
+    else {
+        return Ended {
+            status: 6,
+            ledger: None,
+        };
+    };
+    let Some(text) = text else {
+        return Ended { status, ledger };
+    };
+    match write_all(sink, text.as_slice()) {
+        Ok(()) => Ended { status, ledger },
+        Err(_) => Ended { status: 5, ledger },
+    }
+}
