@@ -5,7 +5,7 @@ use Rattle.spec_checker.specs.declared.verdict.CheckFault.{CheckFault}
 use Rattle.spec_checker.specs.declared.verdict.CheckFault.TheVariants as fault
 use Rattle.spec_checker.specs.Accepting.{Accepts}
 use Rattle.spec_checker.specs.Refusing.{IsRefused, UnlessMemory}
-use Rattle.tilescope.specs.declared.words.Request.{Request}
+use Rattle.command_words.specs.declared.request.Request.{Request}
 use Rattle.tilescope.specs.Words.{Text}
 use Rattle.tilescope.specs.Verdicts.{IsVerdict, IsRejection}
 use Rattle.tilescope.specs.Verdicts.IsVerdict.{rejected}

@@ -8,6 +8,7 @@ use Rattle.patterns.specs.Words.{has_no_repeats}
 use Rattle.rule_kinds.specs.Choices.{Packs}
 use Rattle.tile_rules.specs.Complete.{rulebook_of}
 use Rattle.work_packs.specs.PackTexts.{Text, is_letter, is_pack_text, letters_in, read_packs}
+use Rattle.command_words.specs.Requests.{IsSomePack, all_letters}
 use Rattle.lists.specs.Members.{is_nil}
 
 -- the number of the pack that a text with this byte names isn't 0
@@ -40,3 +41,6 @@ some_letter (b ∷ rest) packs e = go (is_pack_text (b ∷ rest)) refl e
         let first = (and_parts (is_letter b) (list_all is_letter rest) letters).0 in
         let same : letters_in (b ∷ rest) ≡ packs = cc in
         subst (λ (p : Packs). 0 < rulebook_of p) same (first_letter b rest first)
+
+pub some_pack_letter : (packs : Packs) → IsSomePack packs → 0 < rulebook_of packs
+some_pack_letter packs h = ⊎_elim (λ (e : packs ≡ all_letters). subst (λ (p : Packs). 0 < rulebook_of p) (sym e) (omega arith)) (λ named. some_letter named.0 packs named.1) h

@@ -1,4 +1,3 @@
-mod Forms
 mod Answering
 mod Bases
 mod Roots
@@ -9,3 +8,5 @@ mod Judging
 mod Short
 mod Accepted
 mod Streaming
+mod Sampling
+mod Searching

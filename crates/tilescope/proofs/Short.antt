@@ -1,6 +1,6 @@
 -- The line that a command writes of an accepted text is never too long: that of terms is a line of the text, and
 -- the other has two numbers.
-use Rattle.std.proofs.Common.{◌≤◌, ℕ, List, [], ◌∷◌, ◌++◌, length, sym, ap, subst, arith, length-append}
+use Rattle.std.proofs.Common.{◌≤◌, ℕ, List, [], ◌∷◌, ◌++◌, length, sym, subst, arith, length-append}
 use Rattle.std.specs.Prelude.{codes, decimal, flat_map}
 use Rattle.std.proofs.lemmas.Fmt.{length-decimal-le}
 use Rattle.css_terms.specs.declared.term.Term.{Term}
@@ -12,8 +12,8 @@ use Rattle.spec_lines.specs.Files.{lines_of_entries}
 use Rattle.spec_text.specs.declared.file.SpecFile.{SpecFile}
 use Rattle.spec_text.specs.Joined.{IsReadSpec, file_of_spec}
 use Rattle.spec_checker.specs.Accepting.{IsAccepted}
-use Rattle.tilescope.specs.declared.words.Command.{Command}
-use Rattle.tilescope.specs.declared.words.Command.TheVariants as command
+use Rattle.command_words.specs.declared.command.Command.{Command}
+use Rattle.command_words.specs.declared.command.Command.TheVariants as command
 use Rattle.tilescope.specs.Verdicts.{most_bytes, accepted_line, checked_line}
 
 -- a part is no longer than the whole

@@ -25,26 +25,26 @@ use Rattle.perm_core.specs.Basis.{IsBasis}
 use Rattle.spec_text.specs.Files.{KeptSpecsAreSpelled}
 use Rattle.spec_checker.specs.Accepting.{Accepts}
 use Rattle.tilescope.proofs.Accepted.{found_is_accepted}
-use Rattle.tilescope.specs.declared.words.Request.{Request}
+use Rattle.command_words.specs.declared.request.Request.{Request}
 use Rattle.tilescope.specs.Searches.{TileBooks, TileEntries, IsReducedRoot, IsExplored, IsSpecOf, IsWithout, AreRulesOfPack, IsAnswerText, none_line}
 use Rattle.tilescope.specs.Answers.{IsMade, IsSearchAnswer, IsSolvedFor}
 use Rattle.tilescope.proofs.Answering.{made_none, made_found}
 
-same_terms : (last : ℕ) (f g : ℕ → ℕ) → ((n : ℕ) → f n ≡ g n) → terms_to last f ≡ terms_to last g
+pub same_terms : (last : ℕ) (f g : ℕ → ℕ) → ((n : ℕ) → f n ≡ g n) → terms_to last f ≡ terms_to last g
 same_terms last f g h i = terms_to last (λ n. h n i)
 
 -- the root's counts are those of the first entry
-root_counts : (basis : List (List ℕ)) (l : TileBooks) (entries : TileEntries) → IsReducedRoot basis l.root → ValidSpec tile_meaning entries l.root → (n : ℕ) → class_counts tile_meaning entries 0 n ≡ avoiders basis n
+pub root_counts : (basis : List (List ℕ)) (l : TileBooks) (entries : TileEntries) → IsReducedRoot basis l.root → ValidSpec tile_meaning entries l.root → (n : ℕ) → class_counts tile_meaning entries 0 n ≡ avoiders basis n
 root_counts basis l entries root v n =
     let first : class_counts tile_meaning entries 0 n ≡ count v.first.class n = rw v.starts refl in
     first ∙ ap (λ (t : Tiles). count t n) v.root ∙ root.counts n
 
 -- where the root doesn't stand, that is no reason
-not_found : (l : TileBooks) (why : Reason) → EndsFor tile_meaning l why → (RootStands tile_meaning l → ⊥) → why ≢ Found
+pub not_found : (l : TileBooks) (why : Reason) → EndsFor tile_meaning l why → (RootStands tile_meaning l → ⊥) → why ≢ Found
 not_found l why ends unsettled e = unsettled (subst (λ w. EndsFor tile_meaning l w) e ends)
 
 -- the root of a ledger with picks stands
-stands : (l : TileBooks) (entries : TileEntries) → Picked tile_meaning l 0 entries → RootStands tile_meaning l
+pub stands : (l : TileBooks) (entries : TileEntries) → Picked tile_meaning l 0 entries → RootStands tile_meaning l
 stands l entries picked = (picked.standing 0).0 picked.stands
 
 -- the answer's text where there is no specification
@@ -79,7 +79,7 @@ module _ (stand : FiledSpecsStand tile_meaning) (classes_normal : ClassesAreNorm
         some_pack = subst (λ (n : ℕ). 0 < n) (sym solved.filled.of_rulebook) letter;
       }
 
-  explored : IsExplored request.basis request.budget request.packs l why
+  pub explored : IsExplored request.basis request.budget request.packs l why
   explored = record { root = solved.root; ledger = solved.ledger; filled = solved.filled; normal = classes_normal request.packs l filed_for; ends = solved.ends }
 
   by_pack : AreRulesOfPack request.packs l
@@ -98,7 +98,7 @@ module _ (stand : FiledSpecsStand tile_meaning) (classes_normal : ClassesAreNorm
       let ne = not_found l why solved.ends unsettled in
       made_none request l why text ne (record { explored = explored; alone = solved.alone; says = none_text request.basis request.terms l why text ne line; by_pack = by_pack; without = λ _. without unsettled }) s t b made
 
-  found_as : (w : Reason) → (RootStands tile_meaning l) → IsExplored request.basis request.budget request.packs l w → IsExplored request.basis request.budget request.packs l Found
+  pub found_as : (w : Reason) → (RootStands tile_meaning l) → IsExplored request.basis request.budget request.packs l w → IsExplored request.basis request.budget request.packs l Found
   found_as w here is = record { root = is.root; ledger = is.ledger; filled = is.filled; normal = is.normal; ends = here }
 
   pub found_answer : KeptSpecsAreSpelled → IsBasis request.basis → request.terms ≤ 200 → (entries : TileEntries) (steps : List Step) (text : Text) → Picked tile_meaning l 0 entries → IsFiledSpec tile_meaning l entries → steps ≡ trace (root_of request.basis)

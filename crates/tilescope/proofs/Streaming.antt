@@ -1,5 +1,5 @@
 -- A checking that is fed from a source.
-use Rattle.std.proofs.Common.{◌≡◌, ℕ, ◌+◌, ◌≤◌, List, [], ◌++◌, append_assoc, Option, Some, None, length, take, drop, sym, ap, ◌∙◌, subst, refl, arith}
+use Rattle.std.proofs.Common.{◌≡◌, ℕ, ◌+◌, ◌≤◌, List, [], ◌++◌, append_assoc, Option, Some, None, length, take, drop, sym, ap, ◌∙◌, subst, arith}
 use Rattle.std.specs.Prelude.{Result, Ok, Err}
 use Rattle.std.proofs.lemmas.List.{length-append, length-take-le, take-append-le}
 use Rattle.std.proofs.Math.Seq.{drop-length}
@@ -14,8 +14,8 @@ use Rattle.tilescope.specs.Streams.{HasReadOn, HasFed, HasFedAll, IsFoundOutWhol
 use Rattle.tilescope.specs.declared.stream.StreamFault.{StreamFault}
 use Rattle.tilescope.specs.declared.stream.StreamFault.TheVariants as stream
 use Rattle.tilescope.specs.Words.{Text}
-use Rattle.tilescope.specs.declared.words.Request.{Request}
-use Rattle.tilescope.specs.Verdicts.{most_bytes, checked_line, IsVerdict, IsRejection}
+use Rattle.command_words.specs.declared.request.Request.{Request}
+use Rattle.tilescope.specs.Verdicts.{most_bytes, checked_line, IsRejection}
 use Rattle.tilescope.specs.Verdicts.IsVerdict.{accepted}
 use Rattle.tilescope.specs.Answers.{IsTold}
 use Rattle.tilescope.proofs.Judging.{rejected_by}

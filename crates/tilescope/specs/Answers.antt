@@ -17,10 +17,10 @@ use Rattle.rule_kinds.specs.Rules.{TilingRule}
 use Rattle.tile_rules.specs.Complete.{rulebook_of}
 use Rattle.tile_rules.specs.Meaning.{tile_meaning}
 use Rattle.pack_law.specs.Tried.{AreTried}
-use Rattle.tilescope.specs.declared.words.Request.{Request}
-use Rattle.tilescope.specs.declared.words.WordFault.{WordFault}
-use Rattle.tilescope.specs.declared.words.WordFault.TheVariants.{Memory}
-use Rattle.tilescope.specs.Words.{Text, ReadsSearch, ReadsText, IsRefused}
+use Rattle.command_words.specs.declared.request.Request.{Request}
+use Rattle.command_words.specs.declared.request.WordFault.{WordFault}
+use Rattle.command_words.specs.declared.request.WordFault.TheVariants.{Memory}
+use Rattle.tilescope.specs.Words.{Text, ReadsSearch, ReadsText, ReadsListing, IsRefusedFor}
 use Rattle.spec_checker.specs.declared.verdict.CheckFault.{CheckFault}
 use Rattle.spec_checker.specs.declared.verdict.CheckFault.TheVariants as fault
 use Rattle.spec_checker.specs.Accepting.{Accepts, IsAccepted, AreCounts}
@@ -28,23 +28,29 @@ use Rattle.spec_checker.specs.Refusing.{IsRefused as IsRejected}
 use Rattle.css_terms.specs.declared.term.Term.{Term}
 use Rattle.tilescope.specs.Verdicts.{most_bytes, checked_line, rejected_line, IsVerdict}
 use Rattle.tilescope.specs.Usage.{usage_line}
+use Rattle.tilescope.specs.Samples.{IsListing}
 use Rattle.tilescope.specs.Searches.{TileBooks, TileEntries, IsReducedRoot, IsExplored, IsSpecOf, IsWithout, AreRulesOfPack, IsAnswerText}
 
--- the words are refused, and not for want of memory
-pub record AreRefused (words : List Text) : Type 0 where
+-- the words are refused where `most` workers are there, and not for want of memory
+pub record AreRefused (most : ℕ) (words : List Text) : Type 0 where
   pub fault : WordFault
-  pub refused : IsRefused words fault
+  pub refused : IsRefusedFor most words fault
   pub not_memory : fault ≢ Memory
 
--- the words ask for a search
-pub record AskForSearch (words : List Text) : Type 0 where
+-- the words ask for a search by at most so many workers
+pub record AskForSearch (most : ℕ) (words : List Text) : Type 0 where
   pub request : Request
-  pub read : ReadsSearch words request
+  pub read : ReadsSearch most words request
 
 -- the words ask whether a text is accepted
 pub record AskOfText (words : List Text) : Type 0 where
   pub request : Request
   pub read : ReadsText words request
+
+-- the words ask for a listing
+pub record AskForListing (words : List Text) : Type 0 where
+  pub request : Request
+  pub read : ReadsListing words request
 
 -- ---- a search that is solved
 -- the ledger explores the class of the basis by the pack, with one worker alone; it ended for this reason, and this is the specification of its picks, where its root stands
@@ -97,11 +103,17 @@ pub data IsTextAnswer (request : Request) (Rose : Type 0) (before after : Option
   too_many : Took before after (most_bytes + 1) → IsTextAnswer request Rose before after 7 None
   told : (status : ℕ) (text : Text) → IsTold request before after status text → length text ≤ most_bytes → IsTextAnswer request Rose before after status (Some text)
 
--- the status, the text and the ledger of an answer
-pub data IsAnswer (words : List Text) (Rose : Type 0) (before after : Option Text) : ℕ → Option Text → Option TileBooks → Type 0 where
-  usage : (refused : AreRefused words) → IsAnswer words Rose before after 2 (Some (usage_line refused.fault)) None
-  search : (asks : AskForSearch words) (status : ℕ) (text : Option Text) (ledger : Option TileBooks) → IsSearchAnswer asks.request status text ledger → IsAnswer words Rose before after status text ledger
-  text : (asks : AskOfText words) (status : ℕ) (text : Option Text) → IsTextAnswer asks.request Rose before after status text → IsAnswer words Rose before after status text None
+-- the answer of a command that lists, which is none where it is too long
+pub data IsListingAnswer (request : Request) : ℕ → Option Text → Type 0 where
+  listed : (text : Text) → IsListing request text → length text ≤ most_bytes → IsListingAnswer request 0 (Some text)
+  long : (text : Text) → IsListing request text → most_bytes < length text → IsListingAnswer request 7 None
+
+-- the status, the text and the ledger of an answer, where `most` workers are there
+pub data IsAnswer (most : ℕ) (words : List Text) (Rose : Type 0) (before after : Option Text) : ℕ → Option Text → Option TileBooks → Type 0 where
+  usage : (refused : AreRefused most words) → IsAnswer most words Rose before after 2 (Some (usage_line refused.fault)) None
+  search : (asks : AskForSearch most words) (status : ℕ) (text : Option Text) (ledger : Option TileBooks) → IsSearchAnswer asks.request status text ledger → IsAnswer most words Rose before after status text ledger
+  text : (asks : AskOfText words) (status : ℕ) (text : Option Text) → IsTextAnswer asks.request Rose before after status text → IsAnswer most words Rose before after status text None
+  listing : (asks : AskForListing words) (status : ℕ) (text : Option Text) → IsListingAnswer asks.request status text → IsAnswer most words Rose before after status text None
 
 -- ---- what is left after a command
 
@@ -118,90 +130,90 @@ abbrev pub IsSilent : ℕ → Type 0
 IsSilent status = IsOneOf status (4 ∷ 6 ∷ 7 ∷ [])
 
 -- the words are refused, and a sink that held `before` holds the line that says why
-pub record IsUsage (words : List Text) (before now : Option (List ℕ)) : Type 0 where
-  pub refused : AreRefused words
+pub record IsUsage (most : ℕ) (words : List Text) (before now : Option (List ℕ)) : Type 0 where
+  pub refused : AreRefused most words
   pub written : GrewBy before now (usage_line refused.fault)
 
 -- the words are refused, and a sink that held `before` holds a prefix of the line that says why
-pub record IsUsagePrefix (words : List Text) (before now : Option (List ℕ)) : Type 0 where
-  pub refused : AreRefused words
+pub record IsUsagePrefix (most : ℕ) (words : List Text) (before now : Option (List ℕ)) : Type 0 where
+  pub refused : AreRefused most words
   pub written : GrewByPrefix before now (usage_line refused.fault)
 
 -- the words ask for a search, and this is its ledger, which ended for this reason and gives this text
-pub record IsSearchOf (words : List Text) (ledger : Option TileBooks) (why : Reason) (text : Text) : Type 0 where
-  pub asks : AskForSearch words
+pub record IsSearchOf (most : ℕ) (words : List Text) (ledger : Option TileBooks) (why : Reason) (text : Text) : Type 0 where
+  pub asks : AskForSearch most words
   pub books : TileBooks
   pub kept : ledger ≡ Some books
   pub searched : IsSearched asks.request books why text
 
 -- a sink that held `before` holds the text of the search, which found a specification
-pub record IsFoundWritten (words : List Text) (ledger : Option TileBooks) (before now : Option (List ℕ)) : Type 0 where
+pub record IsFoundWritten (most : ℕ) (words : List Text) (ledger : Option TileBooks) (before now : Option (List ℕ)) : Type 0 where
   pub text : Text
-  pub search : IsSearchOf words ledger Found text
+  pub search : IsSearchOf most words ledger Found text
   pub short : length text ≤ most_bytes
   pub written : GrewBy before now text
 
 -- and the checker accepts that text for the basis of the search
-pub record IsAcceptedText (words : List Text) (ledger : Option TileBooks) (before now : Option (List ℕ)) : Type 0 where
-  pub found : IsFoundWritten words ledger before now
+pub record IsAcceptedText (most : ℕ) (words : List Text) (ledger : Option TileBooks) (before now : Option (List ℕ)) : Type 0 where
+  pub found : IsFoundWritten most words ledger before now
   pub accepted : Accepts found.search.asks.request.basis found.text
 
 -- a sink that held `before` holds the line of the search, which found none
-pub record IsNoneWritten (words : List Text) (ledger : Option TileBooks) (before now : Option (List ℕ)) : Type 0 where
+pub record IsNoneWritten (most : ℕ) (words : List Text) (ledger : Option TileBooks) (before now : Option (List ℕ)) : Type 0 where
   pub text : Text
   pub why : Reason
   pub not_found : why ≢ Found
-  pub search : IsSearchOf words ledger why text
+  pub search : IsSearchOf most words ledger why text
   pub short : length text ≤ most_bytes
   pub written : GrewBy before now text
 
 -- a sink that held `before` holds a prefix of the text of the search
-pub record IsSearchPrefix (words : List Text) (ledger : Option TileBooks) (before now : Option (List ℕ)) : Type 0 where
+pub record IsSearchPrefix (most : ℕ) (words : List Text) (ledger : Option TileBooks) (before now : Option (List ℕ)) : Type 0 where
   pub why : Reason
   pub text : Text
-  pub search : IsSearchOf words ledger why text
+  pub search : IsSearchOf most words ledger why text
   pub short : length text ≤ most_bytes
   pub written : GrewByPrefix before now text
 
 -- the ledger is that of the search which the words ask for
-pub record IsSolved (words : List Text) (ledger : Option TileBooks) : Type 0 where
+pub record IsSolved (most : ℕ) (words : List Text) (ledger : Option TileBooks) : Type 0 where
   pub why : Reason
   pub text : Text
-  pub search : IsSearchOf words ledger why text
+  pub search : IsSearchOf most words ledger why text
 
 -- the words ask for a search, and the ledger explores the class of the basis by the pack, which they name
-pub record IsLedgerOf (words : List Text) (ledger : Option TileBooks) : Type 0 where
-  pub asks : AskForSearch words
+pub record IsLedgerOf (most : ℕ) (words : List Text) (ledger : Option TileBooks) : Type 0 where
+  pub asks : AskForSearch most words
   pub books : TileBooks
   pub kept : ledger ≡ Some books
   pub root : IsReducedRoot asks.request.basis books.root
   pub of_pack : books.rulebook ≡ rulebook_of asks.request.packs
 
 -- the picks of the ledger are a valid specification of its root, by rules of the ledger
-pub record HasSpecification (words : List Text) (ledger : Option TileBooks) : Type 0 where
-  pub own : IsLedgerOf words ledger
+pub record HasSpecification (most : ℕ) (words : List Text) (ledger : Option TileBooks) : Type 0 where
+  pub own : IsLedgerOf most words ledger
   pub entries : TileEntries
   pub spec : IsSpecOf own.books entries
 
 -- the rules of each specification by the ledger's rules are of the pack
-pub record IsByPack (words : List Text) (ledger : Option TileBooks) : Type 0 where
-  pub own : IsLedgerOf words ledger
+pub record IsByPack (most : ℕ) (words : List Text) (ledger : Option TileBooks) : Type 0 where
+  pub own : IsLedgerOf most words ledger
   pub tried : AreRulesOfPack own.asks.request.packs own.books
 
 -- the root stands nowhere among the rules filed, and no valid specification of it has all its rules among them
-pub record HasNoSpecification (words : List Text) (ledger : Option TileBooks) : Type 0 where
-  pub own : IsLedgerOf words ledger
+pub record HasNoSpecification (most : ℕ) (words : List Text) (ledger : Option TileBooks) : Type 0 where
+  pub own : IsLedgerOf most words ledger
   pub none : RootStands tile_meaning own.books → ⊥
   pub none_filed : (entries : TileEntries) → ValidSpec tile_meaning entries own.books.root → ((e : Entry Tiles TilingRule) → IsIn e entries → IsIn e.rule own.books.rules) → ⊥
 
 -- where every class was expanded, no valid specification of the root has all its rules among those of the pack
-pub record IsBeyondPack (words : List Text) (ledger : Option TileBooks) : Type 0 where
-  pub own : IsLedgerOf words ledger
+pub record IsBeyondPack (most : ℕ) (words : List Text) (ledger : Option TileBooks) : Type 0 where
+  pub own : IsLedgerOf most words ledger
   pub beyond : is_all_done tile_meaning own.books ≡ true → (entries : TileEntries) → ValidSpec tile_meaning entries own.books.root → AreTried own.asks.request.packs entries → ⊥
 
 -- every class was expanded, or the budget is spent; each class is normal, and the one filing of each done one is complete
-pub record HasEnded (words : List Text) (ledger : Option TileBooks) : Type 0 where
-  pub own : IsLedgerOf words ledger
+pub record HasEnded (most : ℕ) (words : List Text) (ledger : Option TileBooks) : Type 0 where
+  pub own : IsLedgerOf most words ledger
   pub why : (is_all_done tile_meaning own.books ≡ true) ⊎ ((is_all_done tile_meaning own.books ≡ true → ⊥) × (length (done own.books) ≡ own.books.budget))
   pub normal : (c : Tiles) → IsIn c (classes tile_meaning own.books) → IsNormal c
   pub complete : AreFilingsComplete tile_meaning own.books
@@ -247,10 +259,28 @@ pub record IsUnread (words : List Text) (Rose : Type 0) : Type 0 where
   pub asks : AskOfText words
   pub rose : Rose
 
--- what was read is too long, or what a search is to write; a line that is the verdict on a text never is
-pub data IsTooLong (words : List Text) (before after : Option (List ℕ)) (ledger : Option TileBooks) : Type 0 where
-  read : AskOfText words → Took before after (most_bytes + 1) → IsTooLong words before after ledger
-  search : (why : Reason) (text : Text) → IsSearchOf words ledger why text → most_bytes < length text → IsTooLong words before after ledger
+-- what was read is too long, or what a search or a listing is to write; a line that is the verdict on a text never is
+pub data IsTooLong (most : ℕ) (words : List Text) (before after : Option (List ℕ)) (ledger : Option TileBooks) : Type 0 where
+  read : AskOfText words → Took before after (most_bytes + 1) → IsTooLong most words before after ledger
+  search : (why : Reason) (text : Text) → IsSearchOf most words ledger why text → most_bytes < length text → IsTooLong most words before after ledger
+  listing : (asks : AskForListing words) (text : Text) → IsListing asks.request text → most_bytes < length text → IsTooLong most words before after ledger
+
+-- ---- commands that list
+-- the words ask for a listing, and a sink that held `held` holds it
+pub record IsListingWritten (words : List Text) (held now : Option (List ℕ)) : Type 0 where
+  pub asks : AskForListing words
+  pub text : Text
+  pub listing : IsListing asks.request text
+  pub short : length text ≤ most_bytes
+  pub written : GrewBy held now text
+
+-- the words ask for a listing, and a sink that held `held` holds a prefix of it
+pub record IsListingPrefix (words : List Text) (held now : Option (List ℕ)) : Type 0 where
+  pub asks : AskForListing words
+  pub text : Text
+  pub listing : IsListing asks.request text
+  pub short : length text ≤ most_bytes
+  pub written : GrewByPrefix held now text
 
 -- ---- where nothing fails
 -- a source that had `before` left tells it, and that isn't too long
@@ -266,5 +296,9 @@ pub data IsDecided (words : List Text) (bytes : Text) : ℕ → Type 0 where
   memory : IsDecided words bytes 6
 
 -- no text that the search of this ledger gives is too long
-abbrev pub AreTextsShort : List Text → Option TileBooks → Type 0
-AreTextsShort words ledger = (why : Reason) (text : Text) → IsSearchOf words ledger why text → length text ≤ most_bytes
+abbrev pub AreTextsShort : ℕ → List Text → Option TileBooks → Type 0
+AreTextsShort most words ledger = (why : Reason) (text : Text) → IsSearchOf most words ledger why text → length text ≤ most_bytes
+
+-- no listing that the words ask for is too long
+abbrev pub AreListingsShort : List Text → Type 0
+AreListingsShort words = (asks : AskForListing words) (text : Text) → IsListing asks.request text → length text ≤ most_bytes

@@ -2,10 +2,10 @@
 use Rattle.std.specs.Prelude.{[], ◌++◌, codes, decimal}
 use Rattle.perm_core.specs.declared.basis.BasisFault.{BasisFault}
 use Rattle.perm_core.specs.declared.basis.BasisFault.TheVariants.{Empty, BadByte, Repeated, TooLong, TooMany, Memory as BasisMemory}
-use Rattle.tilescope.specs.declared.words.OptName.{OptName}
-use Rattle.tilescope.specs.declared.words.OptName.TheVariants.{Workers, Budget, Terms, Pack, Number}
-use Rattle.tilescope.specs.declared.words.WordFault.{WordFault}
-use Rattle.tilescope.specs.declared.words.WordFault.TheVariants.{Unbuilt, Words, Opt, Basis, Memory}
+use Rattle.command_words.specs.declared.request.OptName.{OptName}
+use Rattle.command_words.specs.declared.request.OptName.TheVariants.{Workers, Budget, Terms, Pack, Number}
+use Rattle.command_words.specs.declared.request.WordFault.{WordFault}
+use Rattle.command_words.specs.declared.request.WordFault.TheVariants.{Words, Opt, Basis, Memory}
 use Rattle.tilescope.specs.Words.{Text}
 
 abbrev pub option_text : OptName → Text
@@ -25,7 +25,6 @@ basis_fault_text BasisMemory = []
 
 -- what is refused; want of memory is said by the status alone
 abbrev pub fault_text : WordFault → Text
-fault_text Unbuilt = codes "unbuilt"
 fault_text Words = codes "words"
 fault_text (Opt name) = codes "option " ++ option_text name
 fault_text (Basis fault) = codes "basis " ++ basis_fault_text fault

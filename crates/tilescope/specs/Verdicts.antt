@@ -7,9 +7,9 @@ use Rattle.spec_checker.specs.declared.verdict.CheckFault.{CheckFault}
 use Rattle.spec_checker.specs.declared.verdict.CheckFault.TheVariants as fault
 use Rattle.spec_checker.specs.Accepting.{Accepts, IsAccepted, AreCounts}
 use Rattle.spec_checker.specs.Refusing.{IsRefused}
-use Rattle.tilescope.specs.declared.words.Command.{Command}
-use Rattle.tilescope.specs.declared.words.Command.TheVariants as command
-use Rattle.tilescope.specs.declared.words.Request.{Request}
+use Rattle.command_words.specs.declared.command.Command.{Command}
+use Rattle.command_words.specs.declared.command.Command.TheVariants as command
+use Rattle.command_words.specs.declared.request.Request.{Request}
 
 -- so many bytes are read or written at most
 abbrev pub most_bytes : ℕ

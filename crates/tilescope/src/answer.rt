@@ -11,9 +11,10 @@ use crate::by_pack::ByPack;
 use crate::made::Answer;
 use crate::none_line::none_line;
 use crate::root::{Reduced, reduce_root};
+use crate::sample::{count, sample};
 use crate::usage::usage_line;
 use crate::verdict::ask;
-use crate::words::{Command, Request, WordFault, read_words};
+use command_words::{Command, OptName, Request, WordFault, read_words, words_mean_one_thing};
 use css_crew::{Solved, solve_alone};
 use css_domain::filed_specs_stand;
 use css_terms::terms;
@@ -94,16 +95,23 @@ pub(crate) fn answer_to<S: Source>(
     words: &[String],
     source: &mut S,
 ) -> Result<Answer, AllocError>
-    ensures answer { IfOk result (λ a. IsAnswer (map string_bytes words.now) (Rose (S.faults source.old) (S.faults source.new)) (S.left source.old) (S.left source.new) a.status a.text a.ledger) }
+    ensures answer { IfOk result (λ a. IsAnswer 1 (map string_bytes words.now) (Rose (S.faults source.old) (S.faults source.new)) (S.left source.old) (S.left source.new) a.status a.text a.ledger) }
     ensures source { (AskOfText (map string_bytes words.now) → ⊥) → source.new ≡ source.old }
 {
     let request = match read_words(alloc, words) {
         Ok(request) => request,
         Err(fault) => return refuse(alloc, fault),
     };
+    words_mean_one_thing();
     match request.command {
-        Command::Search => search(alloc, &request),
+        Command::Search => {
+            if request.workers > 1 {
+                return refuse(alloc, WordFault::Opt(OptName::Workers));
+            }
+            search(alloc, &request)
+        }
         Command::Check | Command::Terms => ask(alloc, &request, source),
-        Command::Count | Command::Sample => unreachable!(),
+        Command::Count => count(alloc, &request),
+        Command::Sample => sample(alloc, &request),
     }
 }

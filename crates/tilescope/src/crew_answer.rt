@@ -14,8 +14,9 @@ use crate::answer::{refuse, say};
 use crate::by_pack::ByPack;
 use crate::made::Answer;
 use crate::root::{Reduced, reduce_root};
+use crate::sample::{count, sample};
 use crate::verdict::ask;
-use crate::words::{Command, Request, read_words};
+use command_words::{Command, Request, read_words, words_mean_one_thing};
 use css_crew::{Gate, Solved, solve, solve_alone};
 use outside::Source;
 use std::alloc::{AllocError, Global};
@@ -90,16 +91,18 @@ pub(crate) fn answer_by_crew<R: Threads + Wait + Sync, S: Source, G: Gate + Sync
     source: &mut S,
     gate: &G,
 ) -> Result<Answer, AllocError>
-    ensures answer { IfOk result (λ a. IsAnswer (map string_bytes words.now) (Rose (S.faults source.old) (S.faults source.new)) (S.left source.old) (S.left source.new) a.status a.text a.ledger) }
+    ensures answer { IfOk result (λ a. IsAnswer 64 (map string_bytes words.now) (Rose (S.faults source.old) (S.faults source.new)) (S.left source.old) (S.left source.new) a.status a.text a.ledger) }
     ensures source { (AskOfText (map string_bytes words.now) → ⊥) → source.new ≡ source.old }
 {
     let request = match read_words(alloc, words) {
         Ok(request) => request,
         Err(fault) => return refuse(alloc, fault),
     };
+    words_mean_one_thing();
     match request.command {
         Command::Search => search_by_crew(rt, alloc, &request, gate),
         Command::Check | Command::Terms => ask(alloc, &request, source),
-        Command::Count | Command::Sample => unreachable!(),
+        Command::Count => count(alloc, &request),
+        Command::Sample => sample(alloc, &request),
     }
 }

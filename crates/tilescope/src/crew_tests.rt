@@ -1,38 +1,19 @@
 //! Searches by several workers for the permutations that avoid 132, by placements in rows, cuts and factors. Below the
 //! root, which is class 0, stand the classes 1, 2 and 3.
-ghost use Rattle.std.specs.Prelude.{◌≤◌};
-
-use crate::crew_answer::search_by_crew;
-use crate::made::Answer;
 use crate::run::run_plain;
 use crate::run_crew::run;
 use crate::search_tests::CATALAN;
 use crate::tests::words;
-use crate::words::{Command, DEFAULT_BUDGET, Request};
 use css_crew::{Gate, NoGate};
 use outside::{SteadySink, SteadySource};
-use perm_core::read_basis;
-use sequences::Sequence;
 use std::alloc::{AllocError, Global};
 use std::sync::Wait;
 use std::sync::atomic::{AtomicU64, Ordering};
 use std::test::Fail;
 use std::thread::Threads;
-use work_packs::Packs;
 
 /// So many loads a gate makes before it gives up.
 const TURNS: u64 = 1_000_000_000;
-
-/// The letters of placements in rows, of cuts and of factors.
-const LETTERS: Packs = Packs {
-    i: false,
-    r: true,
-    c: false,
-    p: false,
-    f: true,
-    s: true,
-    n: false,
-};
 
 /// Waits until the word isn't 0. Answers whether that came.
 fn comes(word: &AtomicU64) -> bool {
@@ -44,56 +25,42 @@ fn comes(word: &AtomicU64) -> bool {
     false
 }
 
-/// The answer of a search by so many workers, with terms up to a length.
-#[tactic(auto, using(crate::proofs::Bases::naming))]
+/// What a command line writes by the workers that it asks for, whose acts the gate is told, and its status.
 fn searched<R: Threads + Wait + Sync, G: Gate + Sync>(
     rt: &R,
     alloc: Global,
-    terms: u32,
-    workers: u32,
+    line: &str,
     gate: &G,
-) -> Result<Answer, Fail>
-    requires short { terms ≤ 200 }
-    requires worker { 1 ≤ workers }
-    requires few_workers { workers ≤ 64 }
-{
-    let Ok(basis) = read_basis(alloc, "132") else {
-        return Err(Fail::new("no basis"));
-    };
-    let request = Request {
-        command: Command::Search,
-        basis: Sequence::of(basis),
-        workers,
-        budget: DEFAULT_BUDGET,
-        terms,
-        packs: LETTERS,
-        number: 0,
-    };
-    let answer = search_by_crew(rt, alloc, &request, gate)?;
-    Ok(answer)
+) -> Result<(u8, Vec<u8>), Fail> {
+    let words = words(alloc, line)?;
+    let mut source = SteadySource::new(Vec::new(alloc));
+    let mut sink = SteadySink::new(alloc);
+    let ended = run(rt, alloc, words.as_slice(), &mut source, &mut sink, gate);
+    let held = sink.held().ok_or("lost")?;
+    Ok((ended.status, Vec::from_slice(alloc, held)?))
 }
 
-/// Whether a text was found, the checker accepts it, and it has these terms.
-fn is_accepted(alloc: Global, answer: &Answer, terms: &str) -> Result<bool, AllocError> {
-    let Some(text) = &answer.text else {
-        return Ok(false);
-    };
+/// Whether a search found a text that the checker accepts, with these terms.
+fn is_accepted(alloc: Global, status: u8, text: Vec<u8>, terms: &str) -> Result<bool, AllocError> {
     let words = words(alloc, "terms 132")?;
-    let mut source = SteadySource::new(Vec::from_slice(alloc, text.as_slice())?);
+    let mut source = SteadySource::new(text);
     let mut sink = SteadySink::new(alloc);
     let ended = run_plain(alloc, words.as_slice(), &mut source, &mut sink);
-    Ok(answer.status == 0 && ended.status == 0 && sink.held() == Some(terms.as_bytes()))
+    Ok(status == 0 && ended.status == 0 && sink.held() == Some(terms.as_bytes()))
 }
 
 #[test]
 fn what_workers_find_is_accepted(rt: HostRuntime) -> Result<(), Fail> {
     let alloc = rt.alloc();
-    for workers in [1, 2, 3, 8, 64] {
-        let answer = searched(&rt, alloc, 6, workers, &NoGate)?;
-        assert!(rt;
-            is_accepted(alloc, &answer, "terms 1 1 2 5 14 42 132\n")?,
-            "{workers}"
-        );
+    for (workers, times) in [(1, 1), (2, 1), (3, 1), (8, 20), (64, 1)] {
+        let line = format!(in alloc; "search 132 --pack rsf --terms 6 --workers {workers}")?;
+        for _ in 0..times {
+            let (status, text) = searched(&rt, alloc, line.as_str(), &NoGate)?;
+            assert!(rt;
+                is_accepted(alloc, status, text, "terms 1 1 2 5 14 42 132\n")?,
+                "{workers}"
+            );
+        }
     }
     Ok(())
 }
@@ -178,9 +145,10 @@ fn workers_expand_at_the_same_time(rt: HostRuntime) -> Result<(), Fail> {
     let alloc = rt.alloc();
     for workers in [2, 3] {
         let gate = Together::of(workers);
-        let answer = searched(&rt, alloc, 10, workers, &gate)?;
+        let line = format!(in alloc; "search 132 --pack rsf --workers {workers}")?;
+        let (status, text) = searched(&rt, alloc, line.as_str(), &gate)?;
         assert!(rt; gate.held(), "{workers}");
-        assert!(rt; is_accepted(alloc, &answer, TERMS)?, "{workers}");
+        assert!(rt; is_accepted(alloc, status, text, TERMS)?, "{workers}");
     }
     Ok(())
 }
@@ -193,28 +161,19 @@ fn the_searcher_finds_beside_the_workers(rt: HostRuntime) -> Result<(), Fail> {
         held: AtomicU64::new(0),
         late: AtomicU64::new(0),
     };
-    let answer = searched(&rt, alloc, 10, 2, &gate)?;
+    let line = "search 132 --pack rsf --workers 2";
+    let (status, text) = searched(&rt, alloc, line, &gate)?;
     assert_eq!(rt; gate.held.load(Ordering::SeqCst), 1);
     assert_eq!(rt; gate.late.load(Ordering::SeqCst), 0);
-    assert!(rt; is_accepted(alloc, &answer, TERMS)?);
+    assert!(rt; is_accepted(alloc, status, text, TERMS)?);
     Ok(())
 }
 
 #[test]
 fn one_worker_writes_what_is_written_plainly(rt: HostRuntime) -> Result<(), Fail> {
     let alloc = rt.alloc();
-    let words = words(alloc, "search 132 --pack rsf --terms 6")?;
-    let mut source = SteadySource::new(Vec::new(alloc));
-    let mut sink = SteadySink::new(alloc);
-    let ended = run(
-        &rt,
-        alloc,
-        words.as_slice(),
-        &mut source,
-        &mut sink,
-        &NoGate,
-    );
-    assert_eq!(rt; ended.status, 0);
-    assert_eq!(rt; sink.held().ok_or("lost")?, CATALAN.as_bytes());
+    let (status, text) = searched(&rt, alloc, "search 132 --pack rsf --terms 6", &NoGate)?;
+    assert_eq!(rt; status, 0);
+    assert_eq!(rt; text.as_slice(), CATALAN.as_bytes());
     Ok(())
 }

@@ -10,10 +10,11 @@ mod none_line;
 mod root;
 mod run;
 mod run_crew;
+mod sample;
+mod sample_lines;
 mod stream;
 mod usage;
 mod verdict;
-mod words;
 
 use css_crew::NoGate;
 use outside::{StdSink, StdSource};
@@ -63,3 +64,5 @@ mod stream_tests;
 mod tests;
 #[cfg(test)]
 mod text_tests;
+#[cfg(test)]
+mod word_tests;

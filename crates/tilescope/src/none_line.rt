@@ -20,7 +20,7 @@ fn reason_word(reason: Reason) -> &'static [u8]
 }
 
 /// Appends a blank and a number.
-fn put_count(out: &mut Vec<u8>, number: u32) -> Result<(), AllocError>
+pub(crate) fn put_count(out: &mut Vec<u8>, number: u32) -> Result<(), AllocError>
     ensures { OnOk result (out.new.items ≡ out.old.items ++ (codes " " ++ decimal number)) }
 {
     out.extend_from_slice(b" ")?;

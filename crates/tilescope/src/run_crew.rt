@@ -1,11 +1,12 @@
 ghost use Rattle.std.specs.Prelude.{◌≡◌, ◌≢◌, [], ◌∷◌, IsNone, map, string_bytes};
 ghost use Rattle.outside.specs.Bytes.{GrewBy};
 ghost use Rattle.outside.specs.Counts.{Rose};
-ghost use Rattle.tilescope.specs.Answers.{AreRefused, AskForSearch, AskOfText, IsOneOf, IsStatus, IsSilent, IsUsage, IsUsagePrefix, IsFoundWritten, IsAcceptedText, IsNoneWritten, HasSpecification, IsByPack, HasNoSpecification, HasEnded, IsBeyondPack, IsSolved, IsSearchPrefix, IsCheckedWritten, IsRejectedWritten, IsVerdictPrefix, IsUnread, IsTooLong, IsWithin, IsDecided, AreTextsShort};
+ghost use Rattle.tilescope.specs.Answers.{AreRefused, AskForSearch, AskOfText, AskForListing, IsOneOf, IsStatus, IsSilent, IsUsage, IsUsagePrefix, IsFoundWritten, IsAcceptedText, IsNoneWritten, HasSpecification, IsByPack, HasNoSpecification, HasEnded, IsBeyondPack, IsSolved, IsSearchPrefix, IsCheckedWritten, IsRejectedWritten, IsVerdictPrefix, IsUnread, IsTooLong, IsWithin, IsDecided, AreTextsShort, IsListingWritten, IsListingPrefix, AreListingsShort};
 
 use crate::crew_answer::answer_by_crew;
 use crate::made::Answer;
 use crate::run::Ended;
+use command_words::words_mean_one_thing;
 use css_crew::Gate;
 use outside::{Sink, Source, write_all};
 use std::alloc::Global;
@@ -25,40 +26,45 @@ pub fn run<R: Threads + Wait + Sync, S: Source, K: Sink, G: Gate + Sync>(
     gate: &G,
 ) -> Ended
     ensures statuses { IsStatus result.status }
-    ensures refused { AreRefused (map string_bytes words.now) → IsOneOf result.status (2 ∷ 5 ∷ 6 ∷ []) }
-    ensures search { AskForSearch (map string_bytes words.now) → IsOneOf result.status (0 ∷ 1 ∷ 5 ∷ 6 ∷ 7 ∷ []) }
+    ensures refused { AreRefused 64 (map string_bytes words.now) → IsOneOf result.status (2 ∷ 5 ∷ 6 ∷ []) }
+    ensures search { AskForSearch 64 (map string_bytes words.now) → IsOneOf result.status (0 ∷ 1 ∷ 5 ∷ 6 ∷ 7 ∷ []) }
     ensures text { AskOfText (map string_bytes words.now) → IsOneOf result.status (0 ∷ 3 ∷ 4 ∷ 5 ∷ 6 ∷ 7 ∷ []) }
+    ensures listing { AskForListing (map string_bytes words.now) → IsOneOf result.status (0 ∷ 5 ∷ 6 ∷ 7 ∷ []) }
     ensures source { (AskOfText (map string_bytes words.now) → ⊥) → source.new ≡ source.old }
 
-    ensures found { AskForSearch (map string_bytes words.now) → result.status ≡ 0 → IsFoundWritten (map string_bytes words.now) result.ledger (K.held sink.old) (K.held sink.new) }
-    ensures valid { AskForSearch (map string_bytes words.now) → result.status ≡ 0 → HasSpecification (map string_bytes words.now) result.ledger }
-    ensures by_pack { AskForSearch (map string_bytes words.now) → result.status ≡ 0 → IsByPack (map string_bytes words.now) result.ledger }
-    ensures accepted_text { AskForSearch (map string_bytes words.now) → result.status ≡ 0 → IsAcceptedText (map string_bytes words.now) result.ledger (K.held sink.old) (K.held sink.new) }
-    ensures none { result.status ≡ 1 → IsNoneWritten (map string_bytes words.now) result.ledger (K.held sink.old) (K.held sink.new) }
-    ensures no_specification { result.status ≡ 1 → HasNoSpecification (map string_bytes words.now) result.ledger }
-    ensures ended { result.status ≡ 1 → HasEnded (map string_bytes words.now) result.ledger }
-    ensures beyond { result.status ≡ 1 → IsBeyondPack (map string_bytes words.now) result.ledger }
-    ensures usage { result.status ≡ 2 → IsUsage (map string_bytes words.now) (K.held sink.old) (K.held sink.new) }
+    ensures found { AskForSearch 64 (map string_bytes words.now) → result.status ≡ 0 → IsFoundWritten 64 (map string_bytes words.now) result.ledger (K.held sink.old) (K.held sink.new) }
+    ensures valid { AskForSearch 64 (map string_bytes words.now) → result.status ≡ 0 → HasSpecification 64 (map string_bytes words.now) result.ledger }
+    ensures by_pack { AskForSearch 64 (map string_bytes words.now) → result.status ≡ 0 → IsByPack 64 (map string_bytes words.now) result.ledger }
+    ensures accepted_text { AskForSearch 64 (map string_bytes words.now) → result.status ≡ 0 → IsAcceptedText 64 (map string_bytes words.now) result.ledger (K.held sink.old) (K.held sink.new) }
+    ensures none { result.status ≡ 1 → IsNoneWritten 64 (map string_bytes words.now) result.ledger (K.held sink.old) (K.held sink.new) }
+    ensures no_specification { result.status ≡ 1 → HasNoSpecification 64 (map string_bytes words.now) result.ledger }
+    ensures ended { result.status ≡ 1 → HasEnded 64 (map string_bytes words.now) result.ledger }
+    ensures beyond { result.status ≡ 1 → IsBeyondPack 64 (map string_bytes words.now) result.ledger }
+    ensures usage { result.status ≡ 2 → IsUsage 64 (map string_bytes words.now) (K.held sink.old) (K.held sink.new) }
 
     ensures checked { AskOfText (map string_bytes words.now) → result.status ≡ 0 → IsCheckedWritten (map string_bytes words.now) (S.left source.old) (S.left source.new) (K.held sink.old) (K.held sink.new) }
     ensures rejected { result.status ≡ 3 → IsRejectedWritten (map string_bytes words.now) (S.left source.old) (S.left source.new) (K.held sink.old) (K.held sink.new) }
+    ensures listed { AskForListing (map string_bytes words.now) → result.status ≡ 0 → IsListingWritten (map string_bytes words.now) (K.held sink.old) (K.held sink.new) }
     ensures unread { result.status ≡ 4 → IsUnread (map string_bytes words.now) (Rose (S.faults source.old) (S.faults source.new)) }
     ensures write_fault { result.status ≡ 5 → Rose (K.faults sink.old) (K.faults sink.new) }
-    ensures long { result.status ≡ 7 → IsTooLong (map string_bytes words.now) (S.left source.old) (S.left source.new) result.ledger }
+    ensures long { result.status ≡ 7 → IsTooLong 64 (map string_bytes words.now) (S.left source.old) (S.left source.new) result.ledger }
     ensures untouched { IsSilent result.status → sink.new ≡ sink.old }
     ensures silent { IsSilent result.status → GrewBy (K.held sink.old) (K.held sink.new) [] }
 
     ensures complete_text { AskOfText (map string_bytes words.now) → (within : IsWithin (S.left source.old)) → (Rose (S.faults source.old) (S.faults source.new) → ⊥) → (Rose (K.faults sink.old) (K.faults sink.new) → ⊥) → IsDecided (map string_bytes words.now) within.bytes result.status }
-    ensures complete_search { AskForSearch (map string_bytes words.now) → AreTextsShort (map string_bytes words.now) result.ledger → (Rose (K.faults sink.old) (K.faults sink.new) → ⊥) → IsOneOf result.status (0 ∷ 1 ∷ 6 ∷ []) }
+    ensures complete_search { AskForSearch 64 (map string_bytes words.now) → AreTextsShort 64 (map string_bytes words.now) result.ledger → (Rose (K.faults sink.old) (K.faults sink.new) → ⊥) → IsOneOf result.status (0 ∷ 1 ∷ 6 ∷ []) }
+    ensures complete_listing { AskForListing (map string_bytes words.now) → AreListingsShort (map string_bytes words.now) → (Rose (K.faults sink.old) (K.faults sink.new) → ⊥) → IsOneOf result.status (0 ∷ 6 ∷ []) }
 
-    ensures solved { AskForSearch (map string_bytes words.now) → result.status ≢ 6 → IsSolved (map string_bytes words.now) result.ledger }
-    ensures no_ledger { (AskForSearch (map string_bytes words.now) → ⊥) → IsNone result.ledger }
+    ensures solved { AskForSearch 64 (map string_bytes words.now) → result.status ≢ 6 → IsSolved 64 (map string_bytes words.now) result.ledger }
+    ensures no_ledger { (AskForSearch 64 (map string_bytes words.now) → ⊥) → IsNone result.ledger }
     ensures nothing_kept { result.status ≡ 6 → IsNone result.ledger }
 
-    ensures search_prefix { AskForSearch (map string_bytes words.now) → result.status ≡ 5 → IsSearchPrefix (map string_bytes words.now) result.ledger (K.held sink.old) (K.held sink.new) }
-    ensures usage_prefix { AreRefused (map string_bytes words.now) → result.status ≡ 5 → IsUsagePrefix (map string_bytes words.now) (K.held sink.old) (K.held sink.new) }
+    ensures search_prefix { AskForSearch 64 (map string_bytes words.now) → result.status ≡ 5 → IsSearchPrefix 64 (map string_bytes words.now) result.ledger (K.held sink.old) (K.held sink.new) }
+    ensures usage_prefix { AreRefused 64 (map string_bytes words.now) → result.status ≡ 5 → IsUsagePrefix 64 (map string_bytes words.now) (K.held sink.old) (K.held sink.new) }
+    ensures listing_prefix { AskForListing (map string_bytes words.now) → result.status ≡ 5 → IsListingPrefix (map string_bytes words.now) (K.held sink.old) (K.held sink.new) }
     ensures text_prefix { AskOfText (map string_bytes words.now) → result.status ≡ 5 → IsVerdictPrefix (map string_bytes words.now) (S.left source.old) (S.left source.new) (K.held sink.old) (K.held sink.new) }
 {
+    words_mean_one_thing();
     let Ok(
         Answer {
             status,

@@ -85,10 +85,14 @@ fn first_rows(rt: HostRuntime) -> Result<(), Fail> {
             1,
             "none exhausted 1 1 0\n",
         ),
-        ("search 132 --pack q --terms 10", 2, "usage unbuilt\n"),
-        ("search 132 --pack ii --terms 10", 2, "usage unbuilt\n"),
+        ("search 132 --pack q --terms 10", 2, "usage option pack\n"),
+        ("search 132 --pack ii --terms 10", 2, "usage option pack\n"),
         ("search 12 --pack i --terms 201", 2, "usage option terms\n"),
-        ("search 112 --pack i --terms 3", 2, "usage unbuilt\n"),
+        (
+            "search 112 --pack i --terms 3",
+            2,
+            "usage basis repeated 1\n",
+        ),
     ];
     for (line, status, text) in rows {
         expect(&rt, alloc, line, status, text)?;
@@ -127,9 +131,8 @@ end
             2,
             "usage option terms\n",
         ),
-        ("search 12,21 --pack i", 2, "usage unbuilt\n"),
-        ("search 12,21 --terms 3 --pack i", 2, "usage unbuilt\n"),
-        ("find 12 --pack i --terms 3", 2, "usage unbuilt\n"),
+        ("search 12,21 --terms 3 --pack i", 0, INSERTION),
+        ("find 12 --pack i --terms 3", 2, "usage words\n"),
     ];
     for (line, status, text) in rows {
         expect(&rt, alloc, line, status, text)?;

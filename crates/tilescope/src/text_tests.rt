@@ -176,16 +176,16 @@ fn changed_lines_are_refused(rt: HostRuntime) -> Result<(), Fail> {
 }
 
 #[test]
-fn other_words_have_no_form(rt: HostRuntime) -> Result<(), Fail> {
+fn other_words_are_refused(rt: HostRuntime) -> Result<(), Fail> {
     let alloc = rt.alloc();
-    for line in [
-        "check",
-        "check 11",
-        "terms 1 2",
-        "count 12",
-        "check 12 --terms 3",
-    ] {
-        expect(&rt, alloc, line, Vec::new(alloc), 2, "usage unbuilt\n")?;
+    let rows = [
+        ("check", "usage words\n"),
+        ("check 11", "usage basis repeated 1\n"),
+        ("terms 1 2", "usage words\n"),
+        ("check 12 --terms 3", "usage words\n"),
+    ];
+    for (line, written) in rows {
+        expect(&rt, alloc, line, Vec::new(alloc), 2, written)?;
     }
     Ok(())
 }

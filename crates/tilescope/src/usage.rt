@@ -1,7 +1,7 @@
 ghost use Rattle.std.specs.Prelude.{◌≡◌, ◌≤◌, ◌+◌, ◌++◌, OnOk, IfOk, decimal, length};
 ghost use Rattle.tilescope.specs.Usage.{option_text, basis_fault_text, fault_text, usage_line};
 
-use crate::words::{OptName, WordFault};
+use command_words::{OptName, WordFault};
 use itoa::Buffer;
 use perm_core::BasisFault;
 use std::alloc::{AllocError, Global};
@@ -48,7 +48,6 @@ fn put_fault(out: &mut Vec<u8>, fault: &WordFault) -> Result<(), AllocError>
     ensures { OnOk result (out.new.items ≡ out.old.items ++ fault_text fault.now) }
 {
     match fault {
-        WordFault::Unbuilt => out.extend_from_slice(b"unbuilt"),
         WordFault::Words => out.extend_from_slice(b"words"),
         WordFault::Opt(name) => {
             out.extend_from_slice(b"option ")?;

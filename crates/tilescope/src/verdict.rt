@@ -7,7 +7,7 @@ ghost use Rattle.tilescope.specs.Verdicts.{refusal_text, rejected_line, accepted
 use crate::made::{Answer, MOST_BYTES};
 use crate::stream::{StreamFault, check_source};
 use crate::usage::put_place;
-use crate::words::{Command, Request};
+use command_words::{Command, Request};
 use outside::Source;
 use spec_checker::{CheckFault, Checked};
 use spec_text::put_terms;

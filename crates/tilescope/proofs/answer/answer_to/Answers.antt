@@ -1,19 +1,52 @@
-use Rattle.tilescope.proofs.Answering.{if_ok-weaker, if_ok-both, asked_for_search, asked_of_text, refused_as, searched_as, told_as}
-use Rattle.tilescope.proofs.Letters.{some_letter}
+use Rattle.std.proofs.Common.{ap, arith, inl, inr}
+use Rattle.command_words.specs.Requests.{takes_basis}
+use Rattle.tilescope.specs.Words.IsRefusedFor.{by_words, by_workers}
+use Rattle.tilescope.proofs.Answering.{if_ok-weaker, if_ok-both, sound_as, basis_by, basis_of_text, letter_by, refused_as, searched_as, told_as, listed_as}
 use Rattle.tilescope.proofs.answer.answer_to.Goals as goal
 
 pub returns-in-Err-clause-answer : goal.returns-in-Err-clause-answer
-returns-in-Err-clause-answer g c = if_ok-weaker _ _ (λ a h. refused_as _ _ _ _ c.in-Err.fault c.in-Err.ensures.refused a.status a.text a.ledger h) c.refuse.result c.refuse.ensures
+returns-in-Err-clause-answer g c = if_ok-weaker _ _ (λ a h. refused_as _ _ _ _ _ c.in-Err.fault (by_words c.in-Err.fault c.in-Err.ensures.refused) a.status a.text a.ledger h) c.refuse.result c.refuse.ensures
+
+pub search-requires-clause-basis : goal.search-requires-clause-basis
+search-requires-clause-basis g c = basis_by c.words_mean_one_thing.ensures _ c.in-Ok.request c.in-Ok.ensures.ok (ap takes_basis c.in-Search.is)
+
+pub search-requires-clause-short : goal.search-requires-clause-short
+search-requires-clause-short g c = (sound_as c.words_mean_one_thing.ensures _ c.in-Ok.request c.in-Ok.ensures.ok).terms
+
+pub search-requires-clause-some : goal.search-requires-clause-some
+search-requires-clause-some g c = (sound_as c.words_mean_one_thing.ensures _ c.in-Ok.request c.in-Ok.ensures.ok).budget.0
+
+pub search-requires-clause-few : goal.search-requires-clause-few
+search-requires-clause-few g c = (sound_as c.words_mean_one_thing.ensures _ c.in-Ok.request c.in-Ok.ensures.ok).budget.1
 
 pub search-requires-clause-letter : goal.search-requires-clause-letter
-search-requires-clause-letter g c =
-    let read = asked_for_search _ c.in-Ok.request c.in-Ok.ensures.ok c.in-Search.is in
-    some_letter read.form.pack c.in-Ok.request.packs read.packs
+search-requires-clause-letter g c = letter_by c.words_mean_one_thing.ensures _ c.in-Ok.request c.in-Ok.ensures.ok
 
-pub returns-in-Search-clause-answer : goal.returns-in-Search-clause-answer
-returns-in-Search-clause-answer g c =
-    if_ok-weaker _ _ (λ a h. searched_as _ _ _ _ c.in-Ok.request (asked_for_search _ c.in-Ok.request c.in-Ok.ensures.ok c.in-Search.is) a.status a.text a.ledger h) c.search.result c.search.ensures
+pub ask-requires : goal.ask-requires
+ask-requires g c = record { basis = basis_of_text c.words_mean_one_thing.ensures _ c.in-Ok.request c.in-Ok.ensures.ok c.in-Check.is }
 
 pub returns-in-Check-clause-answer : goal.returns-in-Check-clause-answer
 returns-in-Check-clause-answer g c =
-    if_ok-both _ _ _ (λ a h alone. told_as _ _ _ _ c.in-Ok.request (asked_of_text _ c.in-Ok.request c.in-Ok.ensures.ok c.in-Check.is) a.status a.text a.ledger h alone) c.ask.result c.ask.ensures.answer c.ask.ensures.no_ledger
+    if_ok-both _ _ _ (λ a h alone. told_as _ _ _ _ _ c.in-Ok.request (record { reads = c.in-Ok.ensures.ok; command = c.in-Check.is }) a.status a.text a.ledger h alone) c.ask.result c.ask.ensures.answer c.ask.ensures.no_ledger
+
+pub count-requires-clause-short : goal.count-requires-clause-short
+count-requires-clause-short g c = (sound_as c.words_mean_one_thing.ensures _ c.in-Ok.request c.in-Ok.ensures.ok).counted c.in-Count.is
+
+pub sample-requires-clause-small : goal.sample-requires-clause-small
+sample-requires-clause-small g c = (sound_as c.words_mean_one_thing.ensures _ c.in-Ok.request c.in-Ok.ensures.ok).number
+
+pub returns-in-Count-clause-answer : goal.returns-in-Count-clause-answer
+returns-in-Count-clause-answer g c =
+    if_ok-both _ _ _ (λ a h alone. listed_as _ _ _ _ _ c.in-Ok.request (record { reads = c.in-Ok.ensures.ok; command = inl c.in-Count.is }) a.status a.text a.ledger h alone) c.count.result c.count.ensures.answer c.count.ensures.no_ledger
+
+pub returns-clause-answer : goal.returns-clause-answer
+returns-clause-answer g c =
+    if_ok-both _ _ _ (λ a h alone. listed_as _ _ _ _ _ c.in-Ok.request (record { reads = c.in-Ok.ensures.ok; command = inr c.in-Sample.is }) a.status a.text a.ledger h alone) c.sample.result c.sample.ensures.answer c.sample.ensures.no_ledger
+
+pub returns-in-Search-clause-answer : goal.returns-in-Search-clause-answer
+returns-in-Search-clause-answer g c =
+    if_ok-weaker _ _ (λ a h. searched_as _ _ _ _ _ c.in-Ok.request (record { reads = c.in-Ok.ensures.ok; command = c.in-Search.is; few = omega (arith, c.if-request-gt1.false) }) a.status a.text a.ledger h) c.search.result c.search.ensures
+
+pub returns-then-request-gt1-clause-answer : goal.returns-then-request-gt1-clause-answer
+returns-then-request-gt1-clause-answer g c =
+    if_ok-weaker _ _ (λ a h. refused_as _ _ _ _ _ _ (by_workers (record { request = c.in-Ok.request; reads = c.in-Ok.ensures.ok; command = c.in-Search.is; more = omega (arith, c.if-request-gt1.true) })) a.status a.text a.ledger h) c.refuse-then-request-gt1.result c.refuse-then-request-gt1.ensures

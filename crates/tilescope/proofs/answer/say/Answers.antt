@@ -1,4 +1,4 @@
-use Rattle.std.proofs.Common.{◌≡◌, List, ℕ, ap, ◌∙◌, subst}
+use Rattle.std.proofs.Common.{ap, ◌∙◌, subst}
 use Rattle.std.specs.Prelude.{Option, IfSome}
 use Rattle.css_crew.specs.Ways.{GoesWith, reason_as}
 use Rattle.css_domain.specs.FiledSpecs.{IsFiledSpec}

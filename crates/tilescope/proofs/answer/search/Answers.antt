@@ -1,4 +1,4 @@
-use Rattle.std.proofs.Common.{◌≡◌, List, ℕ, ap, ◌∙◌, subst}
+use Rattle.std.proofs.Common.{List, ℕ, ap, ◌∙◌, subst}
 use Rattle.normal_form.specs.TraceLaws.{trace}
 use Rattle.tiling_core.specs.Roots.{root_of}
 use Rattle.rule_kinds.specs.Choices.{Packs}
